@@ -1,2 +1,2 @@
-pub mod Row
+pub mod Stored
 pub mod Zeros

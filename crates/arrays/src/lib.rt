@@ -21,7 +21,7 @@ pub fn wide(x: u32) -> usize
 pub fn narrow_at(s: &[u32], at: usize) -> u32
     ensures { result ≡ get_or s.now at 0 }
 {
-    if at < s.len() { s[at] } else { 0 }
+    s.get(at).copied().unwrap_or(0)
 }
 
 // The same in the width of an index.
@@ -44,10 +44,7 @@ pub fn store(t: &mut [u32], at: usize, x: u32)
 pub fn zero(t: &mut [u32])
     ensures { t.new ≡ replicate (length t.old) 0 }
 {
-    let n = t.len();
-    for x in 0..n {
-        t[x] = 0;
-    }
+    t.fill(0);
 }
 
 // Rule r of an array of five numbers a rule.

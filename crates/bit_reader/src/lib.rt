@@ -12,38 +12,22 @@ fn bytes_from(s: &[u8], first: usize, count: usize) -> u32
     requires { (count ≤ 4) × (first + count ≤ length s.now) }
     ensures { result ≡ field s.now (8 * first) (8 * count) }
 {
-    let mut v: u32 = 0;
-    let mut k: usize = 0;
-    while k < count {
-        let x = s[first + k];
-        v = v * 256 + x as u32;
-        k += 1;
+    let mut v = 0u32;
+    for x in &s[first..first + count] {
+        v = v * 256 + u32::from(*x);
     }
     v
 }
 
-// The numbers of two bytes.
-const TWO_BYTES: usize = 65536;
-
 // As many bytes as a field of the greatest width touches.
 const TOUCHED: usize = 4;
-
-// The number in two bytes from byte `first`.
-fn two_bytes(s: &[u8], first: usize) -> usize
-    requires { first + 2 ≤ length s.now }
-    ensures { (result ≡ field s.now (8 * first) 16) × (result < TWO_BYTES) }
-{
-    let x = s[first];
-    let y = s[first + 1];
-    (x as usize) * 256 + (y as usize)
-}
 
 // The number in four bytes from byte `first`, without a loop.
 fn four_bytes(s: &[u8], first: usize) -> usize
     requires { first + 4 ≤ length s.now }
     ensures { (result ≡ field s.now (8 * first) 32) × (result < u32_values) }
 {
-    two_bytes(s, first) * TWO_BYTES + two_bytes(s, first + 2)
+    u32::from_be_bytes([s[first], s[first + 1], s[first + 2], s[first + 3]]) as usize
 }
 
 // The number in the `width` bits from bit `at`. Where as many bytes stand from its first byte on, they are read at once.
@@ -56,7 +40,7 @@ pub fn read_field(s: &[u8], at: usize, width: usize) -> u32
         let v = four_bytes(s, at / 8);
         return bits::lower((v >> (8 * TOUCHED - end)) as u32, width);
     }
-    let count = (end + 7) / 8;
+    let count = end.div_ceil(8);
     let v = bytes_from(s, at / 8, count);
     bits::lower(v >> (8 * count - end), width)
 }
@@ -66,12 +50,9 @@ pub fn zero_from(s: &[u8], at: usize) -> bool
     requires { at < 2 ^ 32 }
     ensures { result ≡ ended s.now at }
 {
-    if (at + 7) / 8 < s.len() {
+    if at.div_ceil(8) < s.len() {
         return false;
     }
-    let total = s.len() * 8;
-    if total < at {
-        return false;
-    }
-    read_field(s, at, total - at) == 0
+    let total = 8 * s.len();
+    at <= total && read_field(s, at, total - at) == 0
 }

@@ -1,7 +1,7 @@
 // Fields of bits written into bytes, most significant bit first.
 #![tactic(auto)]
 
-ghost use Rattle.std.specs.Prelude.{◌≡◌, ◌+◌, ◌*◌, ◌%◌, ◌^◌, ◌≤◌, ◌<◌, min, length};
+ghost use Rattle.std.specs.Prelude.{◌≡◌, ◌+◌, ◌*◌, ◌%◌, ◌^◌, ◌≤◌, ◌<◌, length};
 ghost use Rattle.bits.specs.Put.{put};
 
 use bits::MAX_FIELD_WIDTH;
@@ -27,14 +27,7 @@ fn write_end(out: &mut [u8], byte: usize, width: usize, value: u32)
     out[byte] = y as u8;
 }
 
-// The lesser of two numbers.
-fn least(a: usize, b: usize) -> usize
-    ensures { result ≡ min a b }
-{
-    if a < b { a } else { b }
-}
-
-// A field over any number of bytes, a part for each.
+// A field over any number of bytes, a part for each. The parts' widths differ, so `done` is no index that a range could count.
 fn write_parts(out: &mut [u8], at: usize, width: usize, value: u32)
     requires { (at < 2 ^ 32) × (width ≤ MAX_FIELD_WIDTH) × (at + width ≤ 8 * length out.old) }
     ensures { out.new ≡ put out.old at width value }
@@ -43,7 +36,7 @@ fn write_parts(out: &mut [u8], at: usize, width: usize, value: u32)
     while done < width {
         let p = at + done;
         let left = width - done;
-        let part = least(left, 8 - p % 8);
+        let part = left.min(8 - p % 8);
         write_part(out, p, part, value >> (left - part));
         done += part;
     }
@@ -55,17 +48,16 @@ pub fn write_field(out: &mut [u8], at: usize, width: usize, value: u32)
     ensures { out.new ≡ put out.old at width value }
 {
     let room = 8 - at % 8;
-    if width <= room {
-        if 0 < width {
-            write_part(out, at, width, value);
-        }
+    if width == 0 {
         return;
     }
-    if width <= room + 8 {
+    if width <= room {
+        write_part(out, at, width, value);
+    } else if width <= room + 8 {
         let left = width - room;
         write_part(out, at, room, value >> left);
         write_end(out, at / 8 + 1, left, value);
-        return;
+    } else {
+        write_parts(out, at, width, value);
     }
-    write_parts(out, at, width, value);
 }

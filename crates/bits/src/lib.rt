@@ -12,9 +12,7 @@ pub const MAX_BELOW: usize = 256;
 
 pub const MAX_WIDTH: usize = 8;
 
-// The bits of a u32, and how many values it has.
-const BITS: u32 = 32;
-
+// How many values a u32 has.
 pub const U32_VALUES: usize = 4294967296;
 
 // The lower `width` bits of a number.
@@ -33,8 +31,7 @@ fn width_of(x: usize) -> usize
     if x == 0 {
         return 1;
     }
-    let n = x as u32;
-    (BITS - u32::leading_zeros(n)) as usize
+    (usize::BITS - x.leading_zeros()) as usize
 }
 
 // The width of a number below n.

@@ -22,7 +22,7 @@ use Rattle.phrases.proofs.Theorems.{phrases_exactly, phrases_ascending, first_at
 use Rattle.specimen.specs.Conditions.{asked}
 use Rattle.specimen.specs.Specimen.{output_of}
 use Rattle.specimen.proofs.Asked.{asked_out}
-use Rattle.spireyerba.specs.Code.{string_length}
+use Rattle.specimen.specs.Specimen.{string_length}
 use Rattle.spireyerba.specs.Demands.{Calls, HandedOut, EveryPhrase}
 use Rattle.spireyerba.proofs.Searches.{next_of}
 use Rattle.spireyerba.proofs.Strings.{continued}

@@ -29,8 +29,8 @@ use Rattle.listing.specs.Demand3.{kth_bytes, RankedList}
 use Rattle.open_listing.specs.Open as S
 use Rattle.open_listing.proofs.Decided.{answer_decided, table_decided, output_decided, opening_blocks, calling_blocks}
 use Rattle.open_search.specs.declared.Place.{Place}
-use Rattle.open_answer.specs.declared.Answer as A
-use Rattle.open_answer.specs.declared.Answer.TheVariants.{Reading, NoMore, Full, Refused}
+use Rattle.open_answer.specs.Answer as A
+use Rattle.open_answer.specs.Answer.{Reading, NoMore, Full, Refused}
 use Rattle.codes.specs.Demand1.{answers, refuses}
 use Rattle.open_calls.specs.OneByOne.{place_at, next_code, returned, Open, Next, Sequence, CallsInTurn, HandsOut, Idle, Room, OneByOne}
 use Rattle.open_calls.specs.OneByOne.{EveryReading, EveryCall}
@@ -170,7 +170,7 @@ module _ (search : S.Search) (s : Sequence) (calls : CallsInTurn search s)
           )
 
       -- or none
-      idle : (a : A.Answer) → next.answer ≡ a → (a ≡ Reading → ⊥) → Idle s k (next_code a) × Before (suc k)
+      idle : (a : A.CallAnswer) → next.answer ≡ a → (a ≡ Reading → ⊥) → Idle s k (next_code a) × Before (suc k)
       idle a is other =
           let same = idle_changes next.called (λ e. other (sym is ∙ e)) in
           let stays : s.place (suc k) ≡ s.place k = next.place_is ∙ unmoved next.answer (λ e. other (sym is ∙ e)) in (
@@ -178,7 +178,7 @@ module _ (search : S.Search) (s : Sequence) (calls : CallsInTurn search s)
             record { left = rw (stays, same.table) before.left; size = next.size ∙ before.size },
           )
         where
-          unmoved : (a : A.Answer) → (a ≡ Reading → ⊥) → S.place_after a (s.place k) ≡ s.place k
+          unmoved : (a : A.CallAnswer) → (a ≡ Reading → ⊥) → S.place_after a (s.place k) ≡ s.place k
           unmoved Reading other = absurd (other refl)
           unmoved NoMore other = refl
           unmoved Full other = refl
@@ -244,13 +244,13 @@ pub every_call : EveryCall
 every_call search l r r' out out' c₁ c₂ =
     let answer = answer_decided search l c₁.called c₂.called in (
       c₁.code_is ∙ ap next_code answer ∙ sym c₂.code_is,
-      c₁.place_is ∙ ap (λ (a : A.Answer). S.place_after a l.place) answer ∙ sym c₂.place_is,
+      c₁.place_is ∙ ap (λ (a : A.CallAnswer). S.place_after a l.place) answer ∙ sym c₂.place_is,
       table_decided search l c₁.called c₂.called,
       output_decided search l c₁.called c₂.called,
     )
 
 -- the code 1 is a reading's alone
-reads : (a : A.Answer) → ((n : ℕ) → a ≡ Refused n → 1 ≤ n) → next_code a ≡ pos 1 → a ≡ Reading
+reads : (a : A.CallAnswer) → ((n : ℕ) → a ≡ Refused n → 1 ≤ n) → next_code a ≡ pos 1 → a ≡ Reading
 reads Reading row e = refl
 reads NoMore row e = let z : ◌≡◌ {A = ℕ} 0 1 = cc in absurd (omega arith)
 reads Full row e = let z : ◌≡◌ {A = ℕ} 1 2 = cc in absurd (omega arith)

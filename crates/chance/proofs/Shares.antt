@@ -1,25 +1,21 @@
--- The loops over shares and over the nodes of a walk, and the ways out of `shared`.
-use mathlib.Core.Path.{◌≡◌, sym, ap, ◌∙◌}
+-- The loops over shares and over the nodes of a walk, and the walk that stands at the front of an array.
+use mathlib.Core.Path.{◌≡◌, refl, sym, ap, ◌∙◌}
 use mathlib.Core.Bool.{true, false, false≢true}
 use mathlib.Core.List.{List, [], ◌∷◌}
-use Prim.Native.Nat.{ℕ, zero, suc, ◌+◌, ◌-◌, ◌≤◌, ◌<◌}
+use Prim.Native.Nat.{ℕ, zero, suc, ◌+◌, ◌≤◌, ◌<◌}
 use native.Mathlib.Numerals.{add-one}
 use native.Mathlib.Omega.{arith}
-use borrow.Author.Tests.{leb-true, le-leb, lt-leb, eq-eqb, ne_eqb}
+use borrow.Author.Tests.{leb-true, le-leb, lt-leb}
 use lib.Dec.{leb}
 use lib.ListN.{length, get_or, take, drop, drop_of_length-le}
-use lib.Seq.{drop-cons, get_or-take, length-take-le}
+use lib.Seq.{drop-cons}
 use lib.Ieee.{Float, binary64, mul}
 use Rattle.bits.specs.Bits.{pick}
 use Rattle.packing.specs.Parse.{Verdict, accepted, refused}
+use Rattle.packing.specs.Read.{counted}
 use Rattle.packing.proofs.Parse.{picked_first}
-use Rattle.checker.specs.Run.{Answered}
-use Rattle.judgement.specs.declared.Walked.{Walked}
-use Rattle.judgement.specs.declared.Walked.TheVariants as W
-use Rattle.chance.specs.Answer.{shared_by, chance_of}
-use Rattle.chance.specs.Chance.{is_share, are_shares, shares_of, one, factor_of, product_of}
-use Rattle.chance.specs.Model.{Held, Shared}
-use Rattle.chance.specs.declared.Outcome.TheVariants.{Refused}
+use Rattle.checker.specs.Run.{WalkIn}
+use Rattle.chance.specs.Chance.{is_share, are_shares, shares_of, factor_of, product_of}
 use Rattle.chance.proofs.Error.{Share}
 
 -- the turns of the loop over shares
@@ -61,61 +57,30 @@ at_most [] e r = omega arith
 at_most (s ∷ ss) e zero = (share_out s (picked_first (is_share s) (are_shares ss) false false≢true e).0).1
 at_most (s ∷ ss) e (suc r) = at_most ss (picked_first (is_share s) (are_shares ss) false false≢true e).1 r
 
--- the turns of the loop over nodes, of which some are left
-module _ (shares walk : List ℕ) (nodes left : ℕ) (p : Float) where
+-- the turns of the loop over nodes
+module _ (shares walk : List ℕ) (i : ℕ) (p : Float) where
   -- what the factors that are left make of the product so far
   abbrev pub onward : Float
-  onward = product_of p (shares_of shares (drop (nodes - left) (take nodes walk)))
+  onward = product_of p (shares_of shares (drop i walk))
 
-  pub all_done : nodes ≤ length walk → left ≤ 0 → onward ≡ p
+  pub all_done : length walk ≤ i → onward ≡ p
   unfolding shares_of product_of
-  all_done h l =
-      let long = length-take-le nodes walk h in
-      let past : length (take nodes walk) ≤ nodes - left = omega arith in
-      ap (λ rs. product_of p (shares_of shares rs)) (drop_of_length-le (take nodes walk) past)
+  all_done h = rw (drop_of_length-le walk h)
 
-pub one_node : (shares walk : List ℕ) (nodes left : ℕ) (p f : Float) → nodes ≤ length walk → 0 < left → left ≤ nodes
-    → f ≡ factor_of (get_or shares (get_or walk (nodes - left) 0) 0) → onward shares walk nodes (left - 1) (mul binary64 p f) ≡ onward shares walk nodes left p
+pub one_node : (shares walk : List ℕ) (i : ℕ) (p f : Float) → i < length walk → f ≡ factor_of (get_or shares (get_or walk i 0) 0)
+    → onward shares walk (i + 1) (mul binary64 p f) ≡ onward shares walk i p
 unfolding shares_of product_of
-one_node shares walk nodes left p f h l m e =
-    let i : ℕ = nodes - left in
-    let long = length-take-le nodes walk h in
-    let next : nodes - (left - 1) ≡ suc (nodes - left) = omega arith in
-    let here : drop i (take nodes walk) ≡ get_or walk i 0 ∷ drop (suc i) (take nodes walk) =
-    drop-cons (take nodes walk) i 0 (omega arith) ∙ ap (λ r. r ∷ drop (suc i) (take nodes walk)) (get_or-take nodes walk i 0 (omega arith)) in
-    rw (next, e, here)
-
--- the ways out of `shared`
-module _ (R : ℕ) (shares array : List ℕ) where
-  pub shared_refused : (m : ℕ) → Shared (W.Refused m) R shares array (Refused m)
-  shared_refused m (refused n) (e, b) = let same : m ≡ n = cc in ap Refused same
-  shared_refused m (accepted l) (e, b) = let z : ◌≡◌ {A = ℕ} 0 1 = cc in absurd (omega arith)
-
-  pub shared_nodes : (n : ℕ) {v : Verdict Float} → shared_by R shares (take n array) ≡ v → Shared (W.Nodes n) R shares array (chance_of v)
-  shared_nodes n e (refused m) (told, b) = let z : ◌≡◌ {A = ℕ} 0 1 = cc in absurd (omega arith)
-  shared_nodes n e (accepted l) (told, b) =
-      let same : n ≡ length l = cc in
-      let is : take n array ≡ l = rw same b in
-      let by : shared_by R shares (take n array) ≡ shared_by R shares l = rw is in
-      ap chance_of (sym e ∙ by)
-
--- the tests on the shares
-module _ (R : ℕ) (shares rs : List ℕ) where
-  pub other_count : (length shares ≡ R → ⊥) → shared_by R shares rs ≡ refused 60
-  other_count h = rw (ne_eqb (length shares) R h)
-
-  pub no_shares : length shares ≡ R → are_shares shares ≡ false → shared_by R shares rs ≡ refused 61
-  no_shares h e = rw (eq-eqb (length shares) R h, e)
-
-  pub all_shares : length shares ≡ R → are_shares shares ≡ true → shared_by R shares rs ≡ accepted (product_of one (shares_of shares rs))
-  all_shares h e = rw (eq-eqb (length shares) R h, e)
+one_node shares walk i p f h e = rw (drop-cons walk i 0 h, e, add-one i)
 
 -- what is in front of the array is within it
-pub held : (v : Verdict (List ℕ)) (r : Walked) (array : List ℕ) → Answered v r array → Held r (length array)
-held (refused n) r array (e, b) = rw e tt
-held (accepted l) r array (e, b) = rw e (begun l array b)
+pub begun : (v : Verdict (List ℕ)) (array : List ℕ) {n : ℕ} → accepted n ≡ counted v → WalkIn v array
+    → (l : List ℕ) × (v ≡ accepted l) × (take n array ≡ l) × (n ≤ length array)
+begun (refused m) array e b = cc
+begun (accepted l) array {n} e b =
+    let same : n ≡ length l = cc in
+    (l, refl, rw same b, rw same (front l array b))
   where
-    begun : (l array : List ℕ) → take (length l) array ≡ l → length l ≤ length array
-    begun [] array b = omega arith
-    begun (x ∷ l) [] b = let z : ◌≡◌ {A = ℕ} 0 1 = cc in absurd (omega arith)
-    begun (x ∷ l) (y ∷ array) b = let rest : take (length l) array ≡ l = cc in omega (arith, begun l array rest)
+    front : (l array : List ℕ) → take (length l) array ≡ l → length l ≤ length array
+    front [] array b = omega arith
+    front (x ∷ l) [] b = cc
+    front (x ∷ l) (y ∷ array) b = let rest : take (length l) array ≡ l = cc in omega (arith, front l array rest)

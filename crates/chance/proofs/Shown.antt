@@ -8,9 +8,12 @@ use Prim.Native.Nat.{ℕ, suc, ◌≤◌, ◌<◌}
 use native.Mathlib.Omega.{arith}
 use borrow.Author.Tests.{eqb-true}
 use lib.Dec.{eqb}
-use lib.ListN.{length}
+use lib.ListN.{length, take}
 use lib.Ieee.{Float}
+use Rattle.std.proofs.Common.{Result, Ok}
 use Rattle.bits.specs.Bits.{pick}
+use Rattle.packing.specs.Read.{as_verdict, counted}
+use Rattle.packing.specs.declared.refusal.Refusal.{Refusal}
 use Rattle.packing.specs.Meaning.{Grammar, Heard, Edge, heard_edges}
 use Rattle.packing.specs.Parse.{Verdict, accepted, refused, ◌then◌}
 use Rattle.packing.specs.Grammar.{grammar_block}
@@ -29,14 +32,13 @@ use Rattle.derivation.proofs.Paths.{walk_path}
 use Rattle.derivation.proofs.HeardReadings.{heard_last, path}
 use Rattle.derivation.proofs.Lists.{at_length}
 use Rattle.checker.specs.Check.{check}
-use Rattle.checker.specs.Run.{under_rules}
-use Rattle.checker.proofs.Runs.{walks_of, under_rules_lem}
+use Rattle.checker.proofs.Runs.{walks_of}
+use Rattle.grammar_reader.specs.Answer.{sizes}
+use Rattle.grammar_reader.specs.declared.Sizes.{Sizes}
 use Rattle.checker.proofs.Refused.{check_row}
 use Rattle.checker.proofs.Theorems.{accepts}
-use Rattle.chance.specs.Answer.{shared_by, chance, chance_of}
+use Rattle.chance.specs.Answer.{shared_by, chance}
 use Rattle.chance.specs.Chance.{are_shares, shares_of, one, product_of, Shown, with_shares, asked_chance}
-use Rattle.chance.specs.declared.Outcome.{Outcome}
-use Rattle.chance.specs.declared.Outcome.TheVariants.{Product, Refused}
 use Rattle.chance.proofs.Error.{Share, factor_val, product_near, product_exact}
 use Rattle.chance.proofs.Shares.{share_at}
 
@@ -144,25 +146,37 @@ module _ (grammar heard reading shares : List ℕ) where
           exact = λ m. rw is (product_exact ss (many ∙ m) each);
         }
 
-    -- so of an answer that is the definition's: the promises of `chance`
-    pub promised : {r : Outcome} → r ≡ chance_of (chance grammar heard reading shares)
-        → (r ≡ chance_of (chance grammar heard reading shares)) × ((x : Float) → r ≡ Product x → Shown grammar heard reading shares x)
-    promised {r} e = (e, λ x told. go (chance grammar heard reading shares) refl x (sym e ∙ told))
-      where
-        go : (v : Verdict Float) → chance grammar heard reading shares ≡ v → (x : Float) → chance_of v ≡ Product x → Shown grammar heard reading shares x
-        go (accepted y) f x told = let same : y ≡ x = cc in shown x (f ∙ ap accepted same)
-        go (refused n) f x told = let z : ◌≡◌ {A = ℕ} 0 1 = cc in absurd (omega arith)
+    -- so of an answer that the definition tells: the promises of `chance`
+    pub promised : {r : Result Float Refusal} → as_verdict r ≡ chance grammar heard reading shares
+        → (as_verdict r ≡ chance grammar heard reading shares) × ((x : Float) → r ≡ Ok x → Shown grammar heard reading shares x)
+    promised {r} e = (e, λ x told. let f : chance grammar heard reading shares ≡ accepted x = sym (rw told at e) in shown x f)
 
   -- by the walk that the check found under a grammar
-  pub by_walk : {g : Grammar} → grammar_block grammar ≡ accepted g
-      → (under_rules g.words g.rules heard reading then λ rs. shared_by (length g.rules) shares rs) ≡ chance grammar heard reading shares
+  by_walk : {g : Grammar} → grammar_block grammar ≡ accepted g
+      → (walks_of (check grammar heard reading) then λ rs. shared_by (length g.rules) shares rs) ≡ chance grammar heard reading shares
   unfolding chance
-  by_walk {g} p = rw (p, ← under_rules_lem grammar heard reading g p) (go (check grammar heard reading))
+  by_walk {g} p = rw p (go (check grammar heard reading))
     where
       go : (v : Verdict Tree) → (walks_of v then λ rs. shared_by (length g.rules) shares rs) ≡ (v then λ t. shared_by (length g.rules) shares (walk t))
       go (accepted t) = refl
       go (refused n) = refl
 
-  pub grammar_refused : {n : ℕ} → grammar_block grammar ≡ refused n → Refused n ≡ chance_of (chance grammar heard reading shares)
+  pub grammar_refused : {n : ℕ} → grammar_block grammar ≡ refused n → refused n ≡ chance grammar heard reading shares
   unfolding chance
   grammar_refused p = rw p
+
+  -- by what the check found under the rules of an array that the grammar was read into
+  module _ {g : Grammar} {z : Sizes} {v : Verdict (List ℕ)} (p : grammar_block grammar ≡ accepted g) (q : z ≡ sizes g)
+      (walks : walks_of (check grammar heard reading) ≡ v) where
+    pub walk_refused : {n : ℕ} → refused n ≡ counted v → refused n ≡ chance grammar heard reading shares
+    walk_refused {n} e = go v walks e ∙ by_walk p
+      where
+        go : (x : Verdict (List ℕ)) → walks_of (check grammar heard reading) ≡ x → refused n ≡ counted x
+            → refused n ≡ (walks_of (check grammar heard reading) then λ rs. shared_by (length g.rules) shares rs)
+        go (refused m) w f = rw w (cc)
+        go (accepted l) w f = cc
+
+    pub walk_shared : (array : List ℕ) (n : ℕ) {l : List ℕ} {x : Verdict Float} → v ≡ accepted l → take n array ≡ l → x ≡ shared_by z.rules shares
+        (take n array)
+        → x ≡ chance grammar heard reading shares
+    walk_shared array n e front told = rw (front, q) at told ∙ sym (rw (walks, e) at (sym (by_walk p)))

@@ -6,7 +6,6 @@ use Rattle.packing.specs.Grammar.{grammar_block}
 use Rattle.derivation.specs.Derivation.{walk}
 use Rattle.checker.specs.Check.{check}
 use Rattle.chance.specs.Chance.{shares_of, one, product_of, with_shares}
-use Rattle.chance.specs.declared.Outcome as O
 
 -- of the rules rs
 abbrev pub shared_by : ℕ → List ℕ → List ℕ → Verdict Float
@@ -16,8 +15,3 @@ shared_by R shares rs = with_shares R shares rs then λ rs. accepted (product_of
 unfoldable pub chance : List ℕ → List ℕ → List ℕ → List ℕ → Verdict Float
 chance grammar heard reading shares =
     grammar_block grammar then λ g. check grammar heard reading then λ t. shared_by (length g.rules) shares (walk t)
-
--- the code's answer
-abbrev pub chance_of : Verdict Float → O.Outcome
-chance_of (accepted x) = O.TheVariants.Product x
-chance_of (refused n) = O.TheVariants.Refused n

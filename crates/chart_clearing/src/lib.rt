@@ -30,6 +30,7 @@ fn clear_within(t: &mut [u32], at: usize)
     requires { at + 3 < length t.old }
     ensures { t.new ≡ set (set (set (set t.old at 0) (at + 1) 0) (at + 2) 0) (at + 3) 0 }
 {
+    // One by one, as the definition has it: what `fill` leaves of a part of a slice is told in other words.
     t[at] = 0;
     t[at + 1] = 0;
     t[at + 2] = 0;
@@ -59,6 +60,7 @@ fn is_clear(t: &[u32], d: Layout, number: usize) -> bool
 {
     let at = entry_of(d, number, 0);
     if at + 3 < t.len() {
+        // One test for all four: `iter().all(..)` has one for each.
         return wide(t[at]) + wide(t[at + 1]) + wide(t[at + 2]) + wide(t[at + 3]) == 0;
     }
     false
@@ -72,8 +74,7 @@ fn clear_cell(t: &mut [u32], d: Layout, number: usize)
     if is_clear(&t[..], d, number) {
         return;
     }
-    let m = ranks_to_clear(&t[..], d, number);
-    for x in 0..m {
+    for x in 0..ranks_to_clear(&t[..], d, number) {
         clear_entry(t, d, number, x);
     }
 }
@@ -83,8 +84,7 @@ pub fn clear(t: &mut [u32], d: Layout)
     requires { Sized d }
     ensures { t.new ≡ clear t.old d }
 {
-    let cells = d.cells;
-    for c in 0..cells {
+    for c in 0..d.cells {
         clear_cell(t, d, c);
     }
 }

@@ -32,10 +32,11 @@ struct Column {
 fn capped(x: usize, limit: usize) -> usize
     ensures { (result ≡ capped limit x) × (result ≤ limit) }
 {
-    if x < limit { x } else { limit }
+    x.min(limit)
 }
 
-// Puts a head into the mask of each number that it has in a column.
+// Puts a head into the mask of each number that it has in a column. Loops over a class go by places of the index: behind its end
+// `number_at` reads 0, and the promises hold there too.
 fn mark_head(masks: &mut [u32], rules: &[u32], index: &[u32], column: Column, head: usize)
     requires head_le_last_place { (head ≤ last_place) × (column.base ≤ index_numbers) × (column.field < 5) × (2048 ≤ column.at) }
     requires limit_bound { (column.at + column.limit < mask_numbers) × (mask_numbers ≤ length masks.old) }
@@ -113,7 +114,7 @@ pub fn heads_over(masks: &[u32], edges: &[u32], index: &[u32], c: Cell) -> u32
     let end = class_end(index, EDGE_BASE, from);
     let mut heads: u32 = 0;
     for y in start..end {
-        heads = heads | edge_heads(masks, edges, number_at(index, y), to);
+        heads |= edge_heads(masks, edges, number_at(index, y), to);
     }
     heads
 }

@@ -137,13 +137,11 @@ pub fn keep_four(t: &[u32], kept: &mut [u32], at: Places)
     ensures { kept.new ≡ keep_four t.now kept.old at }
 {
     let n = number_at(&kept[..], 0);
-    if n + AT_ONCE <= MOST_KEPT {
-        let to = 1 + KEPT_NUMBERS * n;
-        if to + KEPT_NUMBERS * AT_ONCE <= kept.len() {
-            copy_four(t, kept, to, at);
-            store(kept, 0, (n + AT_ONCE) as u32);
-            return;
-        }
+    let to = 1 + KEPT_NUMBERS * n;
+    if n + AT_ONCE <= MOST_KEPT && to + KEPT_NUMBERS * AT_ONCE <= kept.len() {
+        copy_four(t, kept, to, at);
+        store(kept, 0, (n + AT_ONCE) as u32);
+        return;
     }
     keep_each(t, kept, at);
 }
@@ -152,10 +150,8 @@ pub fn keep_four(t: &[u32], kept: &mut [u32], at: Places)
 fn store_behind(t: &mut [u32], at: usize, behind: usize, x: u32)
     ensures { t.new ≡ set t.old (at + behind) x }
 {
-    if at < t.len() {
-        if behind < t.len() - at {
-            t[at + behind] = x;
-        }
+    if at < t.len() && behind < t.len() - at {
+        t[at + behind] = x;
     }
 }
 
@@ -176,9 +172,7 @@ fn restore_entry(t: &mut [u32], kept: &[u32], x: usize)
 pub fn put_back(t: &mut [u32], kept: &[u32])
     ensures { t.new ≡ put_back kept.now t.old }
 {
-    let mut n = number_at(kept, 0);
-    while 0 < n {
-        n -= 1;
-        restore_entry(t, kept, n);
+    for x in (0..number_at(kept, 0)).rev() {
+        restore_entry(t, kept, x);
     }
 }

@@ -57,12 +57,7 @@ pub struct Key {
 pub fn with_ranks(b: BackPointer, left: usize, right: usize) -> BackPointer
     ensures { result ≡ with_ranks b left right }
 {
-    BackPointer {
-        rule: b.rule,
-        split: b.split,
-        left,
-        right,
-    }
+    BackPointer { left, right, ..b }
 }
 
 // A back pointer as one number.
@@ -110,7 +105,8 @@ pub fn join_price(w: u32, left: usize, right: usize) -> usize
     wide(w) * WEIGHT_UNIT + part_price(left) + part_price(right) + 1
 }
 
-// The key of no tree, which that of a tree with a part missing reaches.
+// The key of no tree, which that of a tree with a part missing reaches. It is above all others, so that the least needs no test for an
+// Option in the loops over splits.
 pub fn no_key() -> Key
     ensures { key_number result ≡ no_key }
 {
@@ -139,13 +135,12 @@ pub fn before(a: Key, b: Key) -> bool
 }
 
 // The lesser of the best and a key above the floor.
+#[tactic(auto, unfolding(crate::specs::Keys::lesser), using(crate::proofs::Numbers::lesser_best))]
 pub fn lesser(floor: Key, best: Key, key: Key) -> Key
     ensures { key_number result ≡ lesser (key_number floor) (key_number best) (key_number key) }
 {
-    if before(key, best) {
-        if before(floor, key) {
-            return key;
-        }
+    if before(key, best) && before(floor, key) {
+        return key;
     }
     best
 }

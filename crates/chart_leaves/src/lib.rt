@@ -23,33 +23,32 @@ use packing::format::{
     EDGE_COST_AT, EDGE_TO_AT, EDGE_WORD_AT, NUMBERS_PER_EDGE, NUMBERS_PER_RULE, RULE_FIRST_AT,
 };
 
+// Loops over a class go by places of the index: behind its end `number_at` reads 0, and the promises hold there too.
+
 // The bits of a filter of words.
 const FILTER_BITS: u32 = 64;
 
 // The best so far and the leaf of an edge by a rule, if that is a rule of the edge's word.
+#[tactic(auto, unfolding(chart_candidates::specs::Candidates::word_leaf))]
 fn rule_leaf(rules: &[u32], edges: &[u32], e: usize, r: usize, floor: Key, best: Key) -> Key
     requires { (e < u32_values) × (r < u32_values) }
     ensures { key_number result ≡ word_leaf edges.now e (key_number floor) (key_number best) r (rule_at rules.now r) }
 {
-    let rule = rule_at(rules, r);
-    match rule {
-        Rule::Pair(_, _, _, _) => best,
-        Rule::Word(_, word, w) => {
-            if word.0 == narrow_at(edges, NUMBERS_PER_EDGE * e + EDGE_WORD_AT) {
-                let cost = number_at(edges, NUMBERS_PER_EDGE * e + EDGE_COST_AT);
-                let back = back_number(BackPointer {
-                    rule: r,
-                    split: 0,
-                    left: e,
-                    right: 0,
-                });
-                let price = leaf_price(w, cost);
-                lesser(floor, best, Key { price, back })
-            } else {
-                best
-            }
-        }
+    let Rule::Word(_, word, w) = rule_at(rules, r) else {
+        return best;
+    };
+    if word.0 != narrow_at(edges, NUMBERS_PER_EDGE * e + EDGE_WORD_AT) {
+        return best;
     }
+    let cost = number_at(edges, NUMBERS_PER_EDGE * e + EDGE_COST_AT);
+    let back = back_number(BackPointer {
+        rule: r,
+        split: 0,
+        left: e,
+        right: 0,
+    });
+    let price = leaf_price(w, cost);
+    lesser(floor, best, Key { price, back })
 }
 
 // The same. Most rules have another word than the edge, so that is compared before a rule is taken apart.
@@ -116,7 +115,7 @@ fn word_filter(rules: &[u32], index: &[u32], head: usize) -> u64
     let mut filter: u64 = 0;
     for y in start..end {
         let r = number_at(index, y);
-        filter = filter | word_bit(narrow_at(rules, NUMBERS_PER_RULE * r + RULE_FIRST_AT));
+        filter |= word_bit(narrow_at(rules, NUMBERS_PER_RULE * r + RULE_FIRST_AT));
     }
     filter
 }

@@ -55,21 +55,12 @@ pub fn meet(masks: &[u32], d: Layout, first: Sym, second: Sym, c: Cell) -> bool
     requires { (d.symbols ≤ 32) × (c.from ≤ last_place) × (c.to ≤ last_place) }
     ensures { result ≡ false → Apart masks.now d first second c }
 {
-    if masks.len() < MASKS {
-        return true;
-    }
     let left = wide(first.0);
     let right = wide(second.0);
-    if d.symbols <= left {
-        return true;
-    }
-    if d.symbols <= right {
+    if masks.len() < MASKS || d.symbols <= left || d.symbols <= right {
         return true;
     }
     let ends = masks[c.from * HEADS + left];
     let starts = masks[STARTS + c.to * HEADS + right];
-    if disjoint(ends, starts) {
-        return false;
-    }
-    true
+    !disjoint(ends, starts)
 }

@@ -26,6 +26,7 @@ ghost use Rattle.chart_queue.specs.Queue.{
   keep_min,
 };
 
+use bits::U32_VALUES;
 use chart_entries::{COUNTS, back_at, beside_at, put_beside, put_key};
 use chart_journal::{Places, keep_four};
 use chart_keys::{BackPointer, Key, back_pointer, before, is_some};
@@ -34,9 +35,6 @@ use chart_tags::{CODES, INITIAL_TAG, TAGS, code_of, is_initial, shifted};
 
 // What stands beside the first rank has the initial candidate's back pointer above two counts.
 const TALLIES: usize = COUNTS * COUNTS;
-
-// The numbers of 32 bits, which hold a back pointer.
-const BACK_NUMBERS: usize = 4294967296;
 
 // The tag of a candidate that is met as a rank is looked for.
 fn tag_of(t: &[u32], d: Layout, number: usize, rank: usize, back: usize) -> usize
@@ -86,8 +84,7 @@ fn queue_length(t: &[u32], d: Layout, number: usize) -> usize
     requires { (Sized d) × (number < cell_bound) }
     ensures { (result ≡ queue_length t.now d number) × (result ≤ most_ranks) }
 {
-    let m = beside_at(t, d, number, 0) % COUNTS;
-    if m < d.ranks { m } else { d.ranks }
+    (beside_at(t, d, number, 0) % COUNTS).min(d.ranks)
 }
 
 // Keeps the back pointer of a candidate that follows none.
@@ -106,7 +103,7 @@ fn put_queued(t: &mut [u32], d: Layout, number: usize, rank: usize, y: usize, ke
     requires { (Sized d) × (number < cell_bound) × (0 < rank) × (rank ≤ most_ranks) × (y ≤ most_ranks) × (key.price < prices) }
     ensures { t.new ≡ put_queued t.old d number rank y (key_number key) }
 {
-    let back = key.back % BACK_NUMBERS;
+    let back = key.back % U32_VALUES;
     let tag = tag_of(&t[..], d, number, rank, back);
     keep_initial(t, d, number, back);
     put_beside(t, d, number, y + 1, key.price * TAGS + tag);
@@ -189,7 +186,7 @@ fn keep_written(
     requires { (Sized d) × (number < cell_bound) × (rank ≤ most_ranks) × (m ≤ most_ranks) × (y ≤ most_ranks) }
     ensures { kept.new ≡ keep_written t.now kept.old d number rank m y }
 {
-    if kept.len() == 0 {
+    if kept.is_empty() {
         return;
     }
     let at = Places {
@@ -220,13 +217,11 @@ pub fn extract_min(
     let y = least_place(&t[..], d, number, m);
     keep_written(&t[..], kept, d, number, rank, m, y);
     let key = queued_key(&t[..], d, number, y);
-    if 0 < m {
-        if before(key, lo) {
-            put_key(t, d, number, rank, key);
-            replace(t, d, number, rank, m, y, lo);
-            push(t, d, number, rank, m, hi);
-            return;
-        }
+    if 0 < m && before(key, lo) {
+        put_key(t, d, number, rank, key);
+        replace(t, d, number, rank, m, y, lo);
+        push(t, d, number, rank, m, hi);
+        return;
     }
     put_key(t, d, number, rank, lo);
     push(t, d, number, rank, m, hi);

@@ -19,16 +19,16 @@ use chart_successors::{Found, replacement, successors};
 use chart_table::{Cell, Layout, Part, cell_number};
 
 // A rank that is found, of a cell given by its number.
+#[tactic(auto, unfolding(crate::specs::Ranks::found_at))]
 fn found_at(t: &[u32], d: Layout, number: usize, rank: usize) -> Found
     requires { (Sized d) × (number < cell_bound) × (rank ≤ most_ranks) }
     ensures { (result ≡ found_at t.now d number rank) × Digits result.back }
 {
     let price = price_at(t, d, number, rank);
     let back = back_at(t, d, number, rank);
-    let pointer = back_pointer(back);
     Found {
         key: Key { price, back },
-        back: pointer,
+        back: back_pointer(back),
     }
 }
 
@@ -51,15 +51,15 @@ pub fn first_rank(
         → Ruled rules.now index.now d masks.new }
 {
     let key = first_seeds(&t[..], &masks[..], d, rules, index, c, leaf);
-    if PRICES <= key.price {
-        return;
+    if key.price < PRICES {
+        put_key(t, d, cell_number(d, c), 0, key);
+        mark(masks, c);
     }
-    put_key(t, d, cell_number(d, c), 0, key);
-    mark(masks, c);
 }
 
 // Writes a further rank of a cell, where the ranks below are found: the least of the queue, the successors of the rank before
 // it, and what replaces that. What is written over is kept.
+#[tactic(auto, unfolding(crate::specs::Ranks::next_rank))]
 pub fn next_rank(
     t: &mut [u32],
     kept: &mut [u32],
@@ -79,9 +79,10 @@ pub fn next_rank(
     let last = found_at(&t[..], d, number, rank - 1);
     let successor = successors(&t[..], d, rules, c, last, no_key());
     let other = replacement(&t[..], d, rules, edges, index, c, last);
-    if before(other, successor) {
-        extract_min(t, kept, d, number, rank, other, successor);
-        return;
-    }
-    extract_min(t, kept, d, number, rank, successor, other);
+    let (first, second) = if before(other, successor) {
+        (other, successor)
+    } else {
+        (successor, other)
+    };
+    extract_min(t, kept, d, number, rank, first, second);
 }

@@ -56,10 +56,7 @@ fn split_seeds_anywhere(t: &[u32], d: Layout, rule: PairRule, c: Cell, floor: Ke
 fn is_small(rule: PairRule) -> bool
     ensures { result ≡ true → Small rule }
 {
-    if rule.number < MAX_RULES {
-        return rule.weight <= MAX_WEIGHT;
-    }
-    false
+    rule.number < MAX_RULES && rule.weight <= MAX_WEIGHT
 }
 
 // The same by seeds as numbers, where they divide and the table is long enough for the last split. The parts' entries go from split
@@ -81,14 +78,14 @@ fn split_seeds_within(t: &[u32], d: Layout, rule: PairRule, c: Cell, floor: Key,
     for j in first..end {
         let price = join_price(rule.weight, price_within(t, x), price_within(t, y));
         height = lesser_height(low, height, seed_number(price, rule.number, j));
-        x = x + stride;
-        stride = stride + step;
-        y = y + step;
+        x += stride;
+        stride += step;
+        y += step;
     }
     key_of_number(best, height + (low + 1))
 }
 
-// The same: no part's entry stands behind that of the last split.
+// The same: no part's entry stands behind that of the last split. The tests are nested: joined by `&&` the check did not end in minutes.
 fn split_seeds(t: &[u32], d: Layout, rule: PairRule, c: Cell, floor: Key, best: Key) -> Key
     requires { (InTable d c) × (rule.number < u32_values) }
     ensures { key_number result ≡ split_seeds t.now d rule c (key_number floor) (key_number best) }
@@ -111,24 +108,24 @@ fn split_seeds(t: &[u32], d: Layout, rule: PairRule, c: Cell, floor: Key, best: 
 }
 
 // The same for rule r, if it is a pair rule.
+#[tactic(auto, unfolding(chart_candidates::specs::Candidates::rule_seeds))]
 fn rule_seeds(t: &[u32], d: Layout, rules: &[u32], c: Cell, r: usize, floor: Key, best: Key) -> Key
     requires { (InTable d c) × (r < u32_values) }
     ensures { key_number result ≡ rule_seeds t.now d c (key_number floor) (key_number best) r (rule_at rules.now r) }
 {
-    let rule = rule_at(rules, r);
-    match rule {
-        Rule::Pair(_, first, second, weight) => {
-            let pair = PairRule {
-                number: r,
-                first,
-                second,
-                weight,
-            };
-            split_seeds(t, d, pair, c, floor, best)
-        }
-        Rule::Word(_, _, _) => best,
-    }
+    let Rule::Pair(_, first, second, weight) = rule_at(rules, r) else {
+        return best;
+    };
+    let pair = PairRule {
+        number: r,
+        first,
+        second,
+        weight,
+    };
+    split_seeds(t, d, pair, c, floor, best)
 }
+
+// Loops over a class go by places of the index: behind its end `number_at` reads 0, and the promises hold there too.
 
 // Whether the parts of rule r can be found in a cell. Its symbols are looked at before it is taken apart.
 fn parts_meet(masks: &[u32], d: Layout, rules: &[u32], c: Cell, r: usize) -> bool

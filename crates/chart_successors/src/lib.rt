@@ -24,6 +24,7 @@ pub struct Found {
 
 // The best so far and the successors of a found pairing: the next of its right part, and where that was the first, the next of
 // its left part. A leaf has no split and no successors.
+#[tactic(auto, unfolding(crate::specs::Successors::successors, crate::specs::Successors::pair_successors))]
 pub fn successors(t: &[u32], d: Layout, rules: &[u32], c: Cell, last: Found, best: Key) -> Key
     requires { (InTable d c) × Digits last.back }
     ensures { key_number result ≡ successors t.now d rules.now c last (key_number best) }
@@ -33,52 +34,46 @@ pub fn successors(t: &[u32], d: Layout, rules: &[u32], c: Cell, last: Found, bes
     if b.split == 0 {
         return best;
     }
-    let rule = rule_at(rules, b.rule);
-    match rule {
-        Rule::Pair(_, first, second, w) => {
-            let left = left_part(c, first, b.split);
-            let right = right_part(c, second, b.split);
-            let next_right = pair_key(t, d, left, right, w, with_ranks(b, b.left, b.right + 1));
-            let so_far = lesser(floor, best, next_right);
-            if b.right != 0 {
-                return so_far;
-            }
-            let next_left = pair_key(t, d, left, right, w, with_ranks(b, b.left + 1, 0));
-            lesser(floor, so_far, next_left)
-        }
-        Rule::Word(_, _, _) => best,
+    let Rule::Pair(_, first, second, w) = rule_at(rules, b.rule) else {
+        return best;
+    };
+    let left = left_part(c, first, b.split);
+    let right = right_part(c, second, b.split);
+    let next_right = pair_key(t, d, left, right, w, with_ranks(b, b.left, b.right + 1));
+    let so_far = lesser(floor, best, next_right);
+    if b.right != 0 {
+        return so_far;
     }
+    let next_left = pair_key(t, d, left, right, w, with_ranks(b, b.left + 1, 0));
+    lesser(floor, so_far, next_left)
 }
 
 // The other successor of the pairing that a successor follows, where that has two and the other is above the floor.
+#[tactic(auto, unfolding(crate::specs::Successors::sibling, crate::specs::Successors::pair_sibling))]
 fn sibling(t: &[u32], d: Layout, rules: &[u32], c: Cell, last: Found) -> Key
     requires { (InTable d c) × Digits last.back × (0 < last.back.split) }
     ensures { key_number result ≡ sibling t.now d rules.now c last }
 {
     let floor = last.key;
     let b = last.back;
-    let rule = rule_at(rules, b.rule);
-    match rule {
-        Rule::Pair(_, first, second, w) => {
-            let left = left_part(c, first, b.split);
-            let right = right_part(c, second, b.split);
-            if b.right == 1 {
-                let other = pair_key(t, d, left, right, w, with_ranks(b, b.left + 1, 0));
-                return lesser(floor, no_key(), other);
-            }
-            if b.right == 0 {
-                if 0 < b.left {
-                    let other = pair_key(t, d, left, right, w, with_ranks(b, b.left - 1, 1));
-                    return lesser(floor, no_key(), other);
-                }
-            }
-            no_key()
-        }
-        Rule::Word(_, _, _) => no_key(),
+    let Rule::Pair(_, first, second, w) = rule_at(rules, b.rule) else {
+        return no_key();
+    };
+    let left = left_part(c, first, b.split);
+    let right = right_part(c, second, b.split);
+    if b.right == 1 {
+        let other = pair_key(t, d, left, right, w, with_ranks(b, b.left + 1, 0));
+        return lesser(floor, no_key(), other);
     }
+    if b.right == 0 && 0 < b.left {
+        let other = pair_key(t, d, left, right, w, with_ranks(b, b.left - 1, 1));
+        return lesser(floor, no_key(), other);
+    }
+    no_key()
 }
 
 // The least above the floor of the candidates of a cell that follow none: its leaves and its seeds.
+#[tactic(auto, unfolding(crate::specs::Successors::least_initial))]
 fn least_initial(
     t: &[u32],
     d: Layout,
@@ -105,6 +100,7 @@ fn least_initial(
 }
 
 // What replaces a candidate that was found: the next that follows none, or its sibling.
+#[tactic(auto, unfolding(crate::specs::Successors::replacement))]
 pub fn replacement(
     t: &[u32],
     d: Layout,

@@ -29,16 +29,10 @@ const SIBLING: usize = 255;
 pub fn is_initial(b: BackPointer) -> bool
     ensures { result ≡ is_initial b }
 {
-    if b.split == 0 {
-        return true;
-    }
-    if b.left == 0 {
-        return b.right == 0;
-    }
-    false
+    b.split == 0 || (b.left == 0 && b.right == 0)
 }
 
-// How a back pointer comes from that of the last rank found: the code of a tag.
+// How a back pointer comes from that of the last rank found: the code of a tag, a number, since it is a digit of what the table holds.
 pub fn code_of(last: usize, back: usize) -> usize
     requires { last < u32_values }
     ensures { (result ≡ code_of last back) × (result < 4) }
@@ -56,18 +50,15 @@ pub fn code_of(last: usize, back: usize) -> usize
 }
 
 // The back pointer that comes so from that of the last rank found.
+#[tactic(auto, unfolding(crate::specs::Tags::shifted))]
 pub fn shifted(last: usize, code: usize) -> usize
     requires { last < u32_values }
     ensures { result ≡ shifted last code }
 {
-    if code == 0 {
-        return last + NEXT_RIGHT;
+    match code {
+        0 => last + NEXT_RIGHT,
+        1 => last + NEXT_LEFT,
+        2 => last + SIBLING,
+        _ => last.saturating_sub(SIBLING),
     }
-    if code == 1 {
-        return last + NEXT_LEFT;
-    }
-    if code == 2 {
-        return last + SIBLING;
-    }
-    if last < SIBLING { 0 } else { last - SIBLING }
 }

@@ -1,46 +1,37 @@
--- A leaf by the cost of its edge, as it is read: the edge fits if the cost is that of something heard.
+-- A leaf of any edge, by that of the last one.
 use mathlib.Core.Path.{◌≡◌, refl, sym, ◌∙◌}
-use mathlib.Core.Bool.{true, false}
+use mathlib.Core.Bool.{Bool, true, false, false≢true}
 use mathlib.Core.List.{List}
-use Prim.Native.Nat.{ℕ, suc, zero, ◌+◌, ◌-◌, ◌*◌, ◌≤◌, ◌<◌}
+use Prim.Native.Nat.{ℕ, suc, zero, ◌-◌, ◌<◌}
 use native.Mathlib.Omega.{arith}
-use lib.Dec.{ltb}
-use lib.ListN.{get_or}
-use borrow.Author.Tests.{lt-ltb, le-ltb}
-use Rattle.packing.specs.Meaning.{not_heard}
+use Rattle.std.specs.Prelude.{Option, Some, None, is_some}
+use Rattle.bits.specs.Bits.{pick}
 use Rattle.packing.specs.declared.Word.{Word}
 use Rattle.chart_table.specs.declared.Cell.{Cell}
-use Rattle.chart_trace.specs.declared.checked.CheckedNode.TheVariants.{Leaf, Wrong}
+use Rattle.chart_trace.specs.declared.checked.CheckedNode.{CheckedNode}
 use Rattle.chart_trace.specs.Checked.{edge_fits, leaf_of, any_leaf}
 
-module _ (edges : List ℕ) (E : ℕ) (c : Cell) (x : Word) where
-  -- the cost that is read of edge e
-  abbrev Read : ℕ → ℕ → Type 0
-  Read e cost = (ltb cost not_heard ≡ edge_fits edges E c e x) × (cost < not_heard → cost ≡ get_or edges (4 * e + 3) 0)
+module _ (edges : List ℕ) (E : ℕ) (c : Cell) (x : Word) (w : ℕ) where
+  go_some : (b : Bool) (n : CheckedNode) (m : Option CheckedNode) → is_some (pick b (Some n) None) ≡ true → pick b (Some n) m ≡ pick b (Some n) None
+  go_some true n m h = refl
+  go_some false n m h = absurd (false≢true h)
 
-  module _ (e cost : ℕ) (read : Read e cost) where
-    pub fits : cost < not_heard → edge_fits edges E c e x ≡ true
-    fits l = sym read.0 ∙ lt-ltb _ _ l
+  go_none : (b : Bool) (n : CheckedNode) (m : Option CheckedNode) → is_some (pick b (Some n) None) ≡ false → pick b (Some n) m ≡ m
+  go_none true n m h = absurd (false≢true (sym h))
+  go_none false n m h = refl
 
-    pub unfit : not_heard ≤ cost → edge_fits edges E c e x ≡ false
-    unfit l = sym read.0 ∙ le-ltb _ _ l
+  last : (e : ℕ) → 0 < e → any_leaf edges E c x w e
+      ≡ pick (edge_fits edges E c (e - 1) x) (Some (leaf_of edges (e - 1) w)) (any_leaf edges E c x w (e - 1))
+  unfolding any_leaf
+  last zero l = absurd (omega arith)
+  last (suc e) l = let z : suc e - 1 ≡ e = omega arith in rw z
 
-    pub leaf_read : {w a b : ℕ} → cost < not_heard → a ≡ w → b ≡ cost → Leaf (a + b) ≡ leaf_of edges e w
-    leaf_read l p q = rw (p, q, read.1 l)
+  module _ (e : ℕ) where
+    abbrev Leaf_read : Option CheckedNode → Type 0
+    Leaf_read r = r ≡ pick (edge_fits edges E c (e - 1) x) (Some (leaf_of edges (e - 1) w)) None
 
-  module _ (w : ℕ) where
-    -- there is none, or the last one fits, or not
-    pub none_left : (e : ℕ) → e ≤ 0 → Wrong ≡ any_leaf edges E c x w e
-    unfolding any_leaf
-    none_left zero h = refl
-    none_left (suc e) h = absurd (omega arith)
+    pub fits : {r : Option CheckedNode} → 0 < e → Leaf_read r → is_some r ≡ true → any_leaf edges E c x w e ≡ r
+    fits l read some = last e l ∙ go_some _ _ _ (rw read at some) ∙ sym read
 
-    pub last_fits : (e : ℕ) → 0 < e → edge_fits edges E c (e - 1) x ≡ true → any_leaf edges E c x w e ≡ leaf_of edges (e - 1) w
-    unfolding any_leaf
-    last_fits zero some f = absurd (omega arith)
-    last_fits (suc e) some f = let z : suc e - 1 ≡ e = omega arith in rw z (rw (rw z at f))
-
-    pub last_unfit : (e : ℕ) → 0 < e → edge_fits edges E c (e - 1) x ≡ false → any_leaf edges E c x w e ≡ any_leaf edges E c x w (e - 1)
-    unfolding any_leaf
-    last_unfit zero some f = absurd (omega arith)
-    last_unfit (suc e) some f = let z : suc e - 1 ≡ e = omega arith in rw z (rw (rw z at f))
+    pub unfit : {r : Option CheckedNode} → 0 < e → Leaf_read r → is_some r ≡ false → any_leaf edges E c x w e ≡ any_leaf edges E c x w (e - 1)
+    unfit l read none = last e l ∙ go_none _ _ _ (rw read at none)

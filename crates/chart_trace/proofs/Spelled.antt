@@ -9,6 +9,8 @@ use native.Mathlib.Omega.{arith}
 use lib.Dec.{ltb, eqb}
 use lib.ListN.{length}
 use borrow.Author.Tests.{lt-ltb, ltb-true, eq-eqb, ne_eqb}
+use Rattle.std.specs.Prelude.{Some, None}
+use Rattle.std.specs.Prelude as P
 use Rattle.bits.specs.Bits.{pick}
 use Rattle.packing.specs.Flat.{rule_at}
 use Rattle.packing.specs.Store.{store_all}
@@ -22,9 +24,8 @@ use Rattle.chart_table.specs.declared.Layout.{Layout}
 use Rattle.chart_table.specs.Table.{left_part, right_part, cell_number, price_at}
 use Rattle.chart_trace.specs.declared.checked.Scope.{Scope}
 use Rattle.chart_trace.specs.declared.checked.CheckedNode.{CheckedNode}
-use Rattle.chart_trace.specs.declared.checked.CheckedNode.TheVariants.{Leaf, Pairing, Wrong}
+use Rattle.chart_trace.specs.declared.checked.CheckedNode.TheVariants.{Leaf, Pairing}
 use Rattle.chart_trace.specs.declared.checked.Traced.{Traced}
-use Rattle.chart_trace.specs.declared.checked.Traced.TheVariants.{Tree, Nothing}
 use Rattle.chart_trace.specs.Trace.{trace_back}
 use Rattle.chart_trace.specs.Checked.{edge_fits, any_leaf, node_in, checked_node, with_parts, node_weight, spelled_weight, traced_of}
 use Rattle.chart_trace.proofs.Trace.{no_parts, rule_within, back_of, fuel_enough, trace_of}
@@ -36,10 +37,10 @@ unfolding checked_node
 by_rule rules edges k c b l e f = rw (lt-ltb _ _ l, ← e, f)
 
 -- a checked node as the back trace sees it
-abbrev pub Seen : List ℕ → Cell → BackPointer → CheckedNode → Type 0
-Seen rules c b (Leaf w) = (h : Sym) × (y : W.Word) × (v : ℕ) × (rule_within rules c b ≡ Word h y v)
-Seen rules c b (Pairing y z w) = (c.from < b.split) × (b.split < c.to) × ((h : Sym) × (rule_within rules c b ≡ Pair h y z w))
-Seen rules c b Wrong = Unit {0}
+abbrev pub Seen : List ℕ → Cell → BackPointer → P.Option CheckedNode → Type 0
+Seen rules c b (Some (Leaf w)) = (h : Sym) × (y : W.Word) × (v : ℕ) × (rule_within rules c b ≡ Word h y v)
+Seen rules c b (Some (Pairing y z w)) = (c.from < b.split) × (b.split < c.to) × ((h : Sym) × (rule_within rules c b ≡ Pair h y z w))
+Seen rules c b None = Unit {0}
 
 word_within : (s s' : Bool) (r : Rule) {h : Sym} {y : W.Word} {w : ℕ} → r ≡ Word h y w
     → (h' : Sym) × (y' : W.Word) × (v : ℕ) × (pick s (pick s' r no_parts) no_parts ≡ Word h' y' v)
@@ -48,7 +49,7 @@ word_within true false r e = (_, _, _, refl)
 word_within false s' r e = (_, _, _, refl)
 
 module _ (rules edges : List ℕ) (E : ℕ) (c : Cell) (b : BackPointer) {h : Sym} {x : W.Word} {w : ℕ} (e : rule_at rules b.rule ≡ Word h x w) where
-  leaf_seen : (s : Bool) (v : ℕ) (n : CheckedNode) → Seen rules c b n → Seen rules c b (pick s (Leaf v) n)
+  leaf_seen : (s : Bool) (v : ℕ) (n : P.Option CheckedNode) → Seen rules c b n → Seen rules c b (pick s (Some (Leaf v)) n)
   leaf_seen true v n other = word_within (ltb c.from b.split) (ltb b.split c.to) (rule_at rules b.rule) e
   leaf_seen false v n other = other
 
@@ -57,8 +58,8 @@ module _ (rules edges : List ℕ) (E : ℕ) (c : Cell) (b : BackPointer) {h : Sy
   any_seen v zero = tt
   any_seen v (suc n) = leaf_seen (edge_fits edges E c n x) _ (any_leaf edges E c x v n) (any_seen v n)
 
-  word_seen : (a s named : Bool) (v v' : ℕ) → Seen rules c b (pick a (pick s (Leaf v) (pick named Wrong (any_leaf edges E c x v' E))) Wrong)
-  word_seen true s true v v' = leaf_seen s v Wrong tt
+  word_seen : (a s named : Bool) (v v' : ℕ) → Seen rules c b (pick a (pick s (Some (Leaf v)) (pick named None (any_leaf edges E c x v' E))) None)
+  word_seen true s true v v' = leaf_seen s v None tt
   word_seen true s false v v' = leaf_seen s v (any_leaf edges E c x v' E) (any_seen v' E)
   word_seen false s named v v' = tt
 
@@ -67,30 +68,30 @@ unfolding checked_node
 seen rules edges k c b = go (ltb b.rule k.rules) (rule_at rules b.rule) refl
   where
     on_pair : (a s s' : Bool) → ltb c.from b.split ≡ s → ltb b.split c.to ≡ s' → (h x y : Sym) (w : ℕ) → rule_at rules b.rule ≡ Pair h x y w
-        → Seen rules c b (pick a (pick s (pick s' (Pairing x y w) Wrong) Wrong) Wrong)
+        → Seen rules c b (pick a (pick s (pick s' (Some (Pairing x y w)) None) None) None)
     on_pair true true true f g h x y w e = (ltb-true _ _ f, ltb-true _ _ g, (h, rw (f, g) e))
     on_pair true true false f g h x y w e = tt
     on_pair true false s' f g h x y w e = tt
     on_pair false s s' f g h x y w e = tt
 
-    go : (q : Bool) (r : Rule) → rule_at rules b.rule ≡ r → Seen rules c b (pick q (node_in edges k c b r) Wrong)
+    go : (q : Bool) (r : Rule) → rule_at rules b.rule ≡ r → Seen rules c b (pick q (node_in edges k c b r) None)
     go true (Pair h x y w) e = on_pair (eqb h.0 c.head.0) (ltb c.from b.split) (ltb b.split c.to) refl refl h x y w e
     go true (Word h x w) e = word_seen rules edges k.edges c b e (eqb h.0 c.head.0) (edge_fits edges k.edges c b.left x) k.named _ w
     go false r e = tt
 
-pub seen_as : (rules edges : List ℕ) (k : Scope) (c : Cell) (b : BackPointer) {n m : CheckedNode} → n ≡ checked_node rules edges k c b → n ≡ m
+pub seen_as : (rules edges : List ℕ) (k : Scope) (c : Cell) (b : BackPointer) {n m : P.Option CheckedNode} → n ≡ checked_node rules edges k c b → n ≡ m
     → Seen rules c b m
 seen_as rules edges k c b e is = subst (Seen rules c b) (sym e ∙ is) (seen rules edges k c b)
 
 -- fuel: parts are over shorter spans
-parts_same : (rules : List ℕ) (spelled spelled' : Cell → ℕ → Option ℕ) (c : Cell) (b : BackPointer) (n : CheckedNode) → Seen rules c b n
+parts_same : (rules : List ℕ) (spelled spelled' : Cell → ℕ → Option ℕ) (c : Cell) (b : BackPointer) (n : P.Option CheckedNode) → Seen rules c b n
     → ((c' : Cell) (x : ℕ) → c'.from < c'.to → c'.to - c'.from < c.to - c.from → spelled c' x ≡ spelled' c' x)
     → node_weight spelled c b n ≡ node_weight spelled' c b n
-parts_same rules spelled spelled' c b (Leaf w) s same = refl
-parts_same rules spelled spelled' c b (Pairing x y w) s same =
+parts_same rules spelled spelled' c b (Some (Leaf w)) s same = refl
+parts_same rules spelled spelled' c b (Some (Pairing x y w)) s same =
     let (l, m, rest) = s in
     rw (same (left_part c x b.split) b.left l (omega arith), same (right_part c y b.split) b.right m (omega arith))
-parts_same rules spelled spelled' c b Wrong s same = refl
+parts_same rules spelled spelled' c b None s same = refl
 
 module _ (t rules edges : List ℕ) (k : Scope) (d : Layout) where
   spelled_enough : (f g : ℕ) (c : Cell) (x : ℕ) → c.from < c.to → c.to - c.from ≤ f → c.to - c.from ≤ g
@@ -116,18 +117,18 @@ module _ (t rules edges : List ℕ) (k : Scope) (d : Layout) where
     not_found e z = rw (one_more, ← e, eq-eqb _ 0 z)
 
     module _ {p : ℕ} (price : p ≡ price_at t d (cell_number d c) x) (found : p ≡ 0 → ⊥) {b : BackPointer} (e : b ≡ back_of t d c x)
-        {n : CheckedNode} (checked : n ≡ checked_node rules edges k c b) where
-      by_node : {m : CheckedNode} → n ≡ m → spelled_of c x ≡ node_weight (spelled_weight t rules edges k d (c.to - (c.from + 1))) c b m
+        {n : P.Option CheckedNode} (checked : n ≡ checked_node rules edges k c b) where
+      by_node : {m : P.Option CheckedNode} → n ≡ m → spelled_of c x ≡ node_weight (spelled_weight t rules edges k d (c.to - (c.from + 1))) c b m
       unfolding spelled_weight
       by_node is = rw (one_more, ← price, ne_eqb _ 0 found, ← e, ← checked, is)
 
-      pub wrong_node : n ≡ Wrong → spelled_of c x ≡ none
+      pub wrong_node : n ≡ None → spelled_of c x ≡ none
       wrong_node is = by_node is
 
-      pub leaf_node : {w : ℕ} → n ≡ Leaf w → spelled_of c x ≡ some w
+      pub leaf_node : {w : ℕ} → n ≡ Some (Leaf w) → spelled_of c x ≡ some w
       leaf_node is = by_node is
 
-      pub pairing_node : {y z : Sym} {w : ℕ} → n ≡ Pairing y z w
+      pub pairing_node : {y z : Sym} {w : ℕ} → n ≡ Some (Pairing y z w)
           → spelled_of c x ≡ with_parts w (spelled_of (left_part c y b.split) b.left) (spelled_of (right_part c z b.split) b.right)
       pairing_node {y} {z} is =
           let (l, m, rest) = seen_as rules edges k c b checked is in
@@ -137,7 +138,7 @@ module _ (t rules edges : List ℕ) (k : Scope) (d : Layout) where
           )
 
     -- the answer, for any fuel that suffices
-    pub answers : {r : Traced} {trace : List ℕ} (trace₀ : List ℕ) → r ≡ traced_of (spelled_of c x) (length (trace_of t rules d c x))
+    pub answers : {r : P.Option Traced} {trace : List ℕ} (trace₀ : List ℕ) → r ≡ traced_of (spelled_of c x) (length (trace_of t rules d c x))
         → ((w : ℕ) → spelled_of c x ≡ some w → trace ≡ store_all trace₀ 0 (trace_of t rules d c x))
         → (f : ℕ) → c.to - c.from ≤ f
         → (r ≡ traced_of (spelled_weight t rules edges k d f c x) (length (trace_back t rules d f c x)))
@@ -146,12 +147,12 @@ module _ (t rules edges : List ℕ) (k : Scope) (d : Layout) where
         rw (spelled_enough f (c.to - c.from) c x order h (omega arith), fuel_enough t rules d f (c.to - c.from) c x order h (omega arith)) (e, stored)
 
     pub no_tree : {trace : List ℕ} (trace₀ : List ℕ) → spelled_of c x ≡ none → (f : ℕ) → c.to - c.from ≤ f
-        → (Nothing ≡ traced_of (spelled_weight t rules edges k d f c x) (length (trace_back t rules d f c x)))
+        → (None ≡ traced_of (spelled_weight t rules edges k d f c x) (length (trace_back t rules d f c x)))
         × ((w : ℕ) → spelled_weight t rules edges k d f c x ≡ some w → trace ≡ store_all trace₀ 0 (trace_back t rules d f c x))
     no_tree trace₀ e = answers trace₀ (rw e) (λ w g. let z : ◌≡◌ {A = ℕ} 0 1 = cc in absurd (omega arith))
 
     pub one_tree : {trace : List ℕ} {n w : ℕ} (trace₀ : List ℕ) → spelled_of c x ≡ some w
         → (trace ≡ store_all trace₀ 0 (trace_of t rules d c x)) × (n ≡ length (trace_of t rules d c x)) → (f : ℕ) → c.to - c.from ≤ f
-        → (Tree n w ≡ traced_of (spelled_weight t rules edges k d f c x) (length (trace_back t rules d f c x)))
+        → (Some (record { numbers = n; weight = w }) ≡ traced_of (spelled_weight t rules edges k d f c x) (length (trace_back t rules d f c x)))
         × ((v : ℕ) → spelled_weight t rules edges k d f c x ≡ some v → trace ≡ store_all trace₀ 0 (trace_back t rules d f c x))
     one_tree trace₀ e g = answers trace₀ (rw (e, g.1)) (λ w f. g.0)

@@ -1,3 +1,4 @@
--- The back trace, and the one that checks.
+-- The back trace, the one that checks, and the parts that are still to be traced.
 pub mod Trace
 pub mod Checked
+pub mod RightParts

@@ -1,19 +1,20 @@
 // The back trace of a tree in a table that may hold anything: each node is checked as it is traced.
-ghost use Rattle.std.specs.Prelude.{◌≡◌, ℕ, ◌+◌, ◌-◌, ◌*◌, ◌<◌, ◌≤◌, ltb, length, get_or, set};
+ghost use Rattle.std.specs.Prelude.{◌≡◌, ℕ, ◌+◌, ◌-◌, ◌*◌, ◌<◌, ◌≤◌, length, get_or};
 ghost use Rattle.std.proofs.Math.Option.{some};
 ghost use Rattle.bits.specs.Width.{u32_values};
-ghost use Rattle.packing.specs.Meaning.{not_heard};
+ghost use Rattle.bits.specs.Bits.{pick};
 ghost use Rattle.packing.specs.Flat.{rule_at};
 ghost use Rattle.packing.specs.Store.{store_all};
 ghost use Rattle.chart_keys.specs.Keys.{digits, Digits};
 ghost use Rattle.chart_table.specs.Table.{most_ranks, cell_number, price_at, back_at, InTable};
 ghost use Rattle.chart_trace.specs.Trace.{trace_back};
-ghost use Rattle.chart_trace.specs.Checked.{edge_fits, any_leaf, leaf_in, checked_node, own_weight, spelled_weight, traced_of};
+ghost use Rattle.chart_trace.specs.Checked.{edge_fits, leaf_of, any_leaf, leaf_in, checked_node, own_weight, spelled_weight, traced_of};
 
-use crate::{numbered_part, part_number};
-use arrays::{narrow_at, number_at, rule_at, store, wide};
+use crate::right_parts::Pending;
+use crate::store_node;
+use arrays::{narrow_at, number_at, rule_at, wide};
 use chart_entries::{back_at, price_at, price_within};
-use chart_keys::{BackPointer, Key, SPLITS, back_pointer};
+use chart_keys::{BackPointer, Key, back_pointer};
 use chart_table::{Cell, Layout, Part, cell_number, entry_of, left_part};
 use packing::format::{
     EDGE_COST_AT, EDGE_TO_AT, EDGE_WORD_AT, NOT_HEARD, NUMBERS_PER_EDGE, NUMBERS_PER_NODE,
@@ -29,20 +30,18 @@ pub struct Scope {
     pub named: bool,
 }
 
-// What a node's back pointer says in its cell: a leaf of a weight, a pairing of parts with these heads by a rule of a weight, or
-// nothing that can stand there.
+// What a node's back pointer says in its cell: a leaf of a weight, or a pairing of parts with these heads by a rule of a weight.
 #[derive(Clone, Copy)]
 pub enum CheckedNode {
     Leaf(usize),
     Pairing(Sym, Sym, usize),
-    Wrong,
 }
 
-// What a checked trace answers: how many numbers it has and what the tree weighs, or that the table spells no tree.
+// How many numbers a checked trace has, and what its tree weighs.
 #[derive(Clone, Copy)]
-pub enum Traced {
-    Tree(usize, usize),
-    Nothing,
+pub struct Traced {
+    pub numbers: usize,
+    pub weight: usize,
 }
 
 // An edge's four numbers.
@@ -79,20 +78,6 @@ fn tree_of(t: &[u32], d: Layout, part: Part) -> Key
     }
 }
 
-// Writes the rule number of a node and the number of its left part, which of a leaf is its edge's.
-fn store_node(trace: &mut [u32], at: usize, b: BackPointer)
-    requires { (Digits b) × (at < u32_values) }
-    ensures { trace.new ≡ set (set trace.old at b.rule) (at + 1) b.left }
-{
-    if at + 1 < trace.len() {
-        trace[at] = b.rule as u32;
-        trace[at + 1] = b.left as u32;
-        return;
-    }
-    store(trace, at, b.rule as u32);
-    store(trace, at + 1, b.left as u32);
-}
-
 // Edge e of an array of four numbers an edge.
 fn edge_numbers(edges: &[u32], e: usize) -> EdgeNumbers
     requires { e < digits }
@@ -116,42 +101,45 @@ fn edge_numbers(edges: &[u32], e: usize) -> EdgeNumbers
     }
 }
 
-// What edge e costs, where it is one of the first `count`, goes over the cell's span with a word, and was heard. Else a cost as of what was
-// not heard.
-fn edge_cost(edges: &[u32], count: usize, c: Cell, e: usize, word: Word) -> u32
+// A leaf by a rule of a word and a weight, of edge e, where that is one of the first `count`, goes over the cell's span with the word, and was
+// heard.
+#[tactic(auto, unfolding(crate::specs::Checked::edge_fits))]
+fn edge_leaf(
+    edges: &[u32],
+    count: usize,
+    c: Cell,
+    e: usize,
+    word: Word,
+    weight: u32,
+) -> Option<CheckedNode>
     requires { e < digits }
-    ensures { (ltb result not_heard ≡ edge_fits edges.now count c e word) × (result < not_heard → result ≡ get_or edges.now (4 * e + 3) 0) }
+    ensures { (result ≡ pick (edge_fits edges.now count c e word) (Some (leaf_of edges.now e weight)) None)
+        × (own_weight result < 8589934592) }
 {
     if count <= e {
-        return NOT_HEARD;
+        return None;
     }
     let edge = edge_numbers(edges, e);
-    if edge.from != c.from {
-        return NOT_HEARD;
+    if edge.from == c.from && edge.to == c.to && edge.word == word.0 && edge.cost < NOT_HEARD {
+        Some(CheckedNode::Leaf(wide(weight) + wide(edge.cost)))
+    } else {
+        None
     }
-    if edge.to != c.to {
-        return NOT_HEARD;
-    }
-    if edge.word != word.0 {
-        return NOT_HEARD;
-    }
-    edge.cost
 }
 
-// A leaf by a rule of a word and a weight, of the last of the first `count` edges that fits.
-fn any_leaf(edges: &[u32], count: usize, c: Cell, word: Word, weight: u32) -> CheckedNode
+// The same of the last of the first `count` edges that fits.
+#[tactic(auto, unfolding(crate::specs::Checked::any_leaf))]
+fn any_leaf(edges: &[u32], count: usize, c: Cell, word: Word, weight: u32) -> Option<CheckedNode>
     requires { count ≤ digits }
     ensures { (result ≡ any_leaf edges.now count c word weight count) × (own_weight result < 8589934592) }
 {
-    let mut e = count;
-    while 0 < e {
-        e = e - 1;
-        let cost = edge_cost(edges, count, c, e, word);
-        if cost < NOT_HEARD {
-            return CheckedNode::Leaf(wide(weight) + wide(cost));
+    for e in (0..count).rev() {
+        let leaf = edge_leaf(edges, count, c, e, word, weight);
+        if leaf.is_some() {
+            return leaf;
         }
     }
-    CheckedNode::Wrong
+    None
 }
 
 // A leaf by a rule of a word and a weight: of edge e, if that fits. If not, and leaves do not name their edges, of any edge that does.
@@ -162,54 +150,53 @@ fn checked_leaf(
     e: usize,
     word: Word,
     weight: u32,
-) -> CheckedNode
+) -> Option<CheckedNode>
     requires { (e < digits) × (scope.edges ≤ digits) }
     ensures { (result ≡ leaf_in edges.now scope c e word weight) × (own_weight result < 8589934592) }
 {
-    let cost = edge_cost(edges, scope.edges, c, e, word);
-    if cost < NOT_HEARD {
-        return CheckedNode::Leaf(wide(weight) + wide(cost));
-    }
-    if scope.named {
-        return CheckedNode::Wrong;
+    let leaf = edge_leaf(edges, scope.edges, c, e, word, weight);
+    if leaf.is_some() || scope.named {
+        return leaf;
     }
     any_leaf(edges, scope.edges, c, word, weight)
 }
 
 // What a back pointer says in a cell: its rule is one of the grammar's and the cell's head is its own; of two parts the split is
-// within the span, and of a leaf the edge fits.
-fn checked_node(rules: &[u32], edges: &[u32], scope: Scope, c: Cell, b: BackPointer) -> CheckedNode
+// within the span, and of a leaf the edge fits. None where it can't stand there.
+#[tactic(auto, unfolding(crate::specs::Checked::checked_node))]
+fn checked_node(
+    rules: &[u32],
+    edges: &[u32],
+    scope: Scope,
+    c: Cell,
+    b: BackPointer,
+) -> Option<CheckedNode>
     requires { (Digits b) × (scope.edges ≤ digits) }
     ensures { (result ≡ checked_node rules.now edges.now scope c b) × (own_weight result < 8589934592) }
 {
     if scope.rules <= b.rule {
-        return CheckedNode::Wrong;
+        return None;
     }
-    let rule = rule_at(rules, b.rule);
-    match rule {
+    match rule_at(rules, b.rule) {
         Rule::Pair(head, first, second, weight) => {
-            if head.0 != c.head.0 {
-                return CheckedNode::Wrong;
+            if head.0 == c.head.0 && c.from < b.split && b.split < c.to {
+                Some(CheckedNode::Pairing(first, second, wide(weight)))
+            } else {
+                None
             }
-            if b.split <= c.from {
-                return CheckedNode::Wrong;
-            }
-            if c.to <= b.split {
-                return CheckedNode::Wrong;
-            }
-            CheckedNode::Pairing(first, second, wide(weight))
         }
         Rule::Word(head, word, weight) => {
-            if head.0 != c.head.0 {
-                return CheckedNode::Wrong;
+            if head.0 == c.head.0 {
+                checked_leaf(edges, scope, c, b.left, word, weight)
+            } else {
+                None
             }
-            checked_leaf(edges, scope, c, b.left, word, weight)
         }
     }
 }
 
-// Writes the trace of a part as `trace_back` does, each node checked, and answers how many numbers it has and what the tree weighs. Where
-// a rank is not found or a node can't stand in its cell, the table spells no tree, and what is written by then is of no use.
+// Writes the trace of a part as `trace_back` does, each node checked, and answers how many numbers it has and what the tree weighs: none
+// where a rank is not found or a node can't stand in its cell, for then the table spells no tree, and what is written by then is of no use.
 pub fn trace_checked(
     t: &[u32],
     rules: &[u32],
@@ -218,7 +205,7 @@ pub fn trace_checked(
     d: Layout,
     part: Part,
     trace: &mut [u32],
-) -> Traced
+) -> Option<Traced>
     requires { (InTable d part.cell) × (part.rank ≤ most_ranks) × (scope.edges ≤ digits) }
     ensures { (f : ℕ) → part.cell.to - part.cell.from ≤ f
         → (result ≡ traced_of (spelled_weight t.now rules.now edges.now scope d f part.cell part.rank)
@@ -226,40 +213,35 @@ pub fn trace_checked(
         × ((w : ℕ) → spelled_weight t.now rules.now edges.now scope d f part.cell part.rank ≡ some w
         → trace.new ≡ store_all trace.old 0 (trace_back t.now rules.now d f part.cell part.rank)) }
 {
-    let mut stack = [0usize; SPLITS];
-    let mut n: usize = 0;
+    let mut pending = Pending::new();
     let mut here = part;
-    let mut next: usize = 0;
+    let mut numbers: usize = 0;
     let mut weight: usize = 0;
     loop {
         let cell = here.cell;
         let tree = tree_of(t, d, here);
         if tree.price == 0 {
-            return Traced::Nothing;
+            return None;
         }
         let back = back_pointer(tree.back);
-        store_node(trace, next, back);
-        next = next + NUMBERS_PER_NODE;
-        let node = checked_node(rules, edges, scope, cell, back);
-        match node {
-            CheckedNode::Pairing(first, second, w) => {
-                weight = weight + w;
-                stack[n] = part_number(second, cell.to, back.right);
-                n = n + 1;
-                let left = left_part(cell, first, back.split);
+        store_node(trace, numbers, back);
+        numbers += NUMBERS_PER_NODE;
+        match checked_node(rules, edges, scope, cell, back)? {
+            CheckedNode::Pairing(first, second, own) => {
+                weight += own;
+                pending.push(second, cell.to, back.right);
                 here = Part {
-                    cell: left,
+                    cell: left_part(cell, first, back.split),
                     rank: back.left,
                 };
-                continue;
             }
-            CheckedNode::Leaf(w) => weight = weight + w,
-            CheckedNode::Wrong => return Traced::Nothing,
+            CheckedNode::Leaf(own) => {
+                weight += own;
+                let Some(right) = pending.pop(cell.to) else {
+                    return Some(Traced { numbers, weight });
+                };
+                here = right;
+            }
         }
-        if n == 0 {
-            return Traced::Tree(next, weight);
-        }
-        n = n - 1;
-        here = numbered_part(cell.to, stack[n]);
     }
 }

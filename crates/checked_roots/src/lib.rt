@@ -11,7 +11,7 @@ use arrays::wide;
 use chart::root_weight;
 use chart_entries::price_at;
 use chart_table::{Layout, Part, cell_number, root};
-use chart_trace::checked::{Scope, Traced, trace_checked};
+use chart_trace::checked::{Scope, trace_checked};
 
 // Whether a rank of the root is found.
 pub fn root_found(t: &[u32], d: Layout, rank: usize) -> bool
@@ -21,8 +21,8 @@ pub fn root_found(t: &[u32], d: Layout, rank: usize) -> bool
     price_at(t, d, cell_number(d, root(d)), rank) != 0
 }
 
-// Writes the trace of a rank of the root, each node checked, and answers how many numbers it has: 0 where the table spells no tree there, or
-// one of another weight than its price says.
+// Writes the trace of a rank of the root, each node checked, and answers how many numbers it has: none where the table spells no tree there,
+// or one of another weight than its price says.
 pub fn checked_root(
     t: &[u32],
     rules: &[u32],
@@ -31,10 +31,10 @@ pub fn checked_root(
     d: Layout,
     rank: usize,
     trace: &mut [u32],
-) -> usize
+) -> Option<usize>
     requires { (Sized d) × (0 < d.last) × (rank < d.ranks) × (scope.edges ≤ 256) }
     ensures value { result ≡ pick (root_spelled t.now rules.now edges.now scope d rank)
-        (length (root_trace t.now rules.now d rank)) 0 }
+        (Some (length (root_trace t.now rules.now d rank))) None }
     ensures trace_after { root_spelled t.now rules.now edges.now scope d rank ≡ true
         → trace.new ≡ store_all trace.old 0 (root_trace t.now rules.now d rank) }
 {
@@ -42,14 +42,10 @@ pub fn checked_root(
         cell: root(d),
         rank,
     };
-    let traced = trace_checked(t, rules, edges, scope, d, part, trace);
-    match traced {
-        Traced::Nothing => 0,
-        Traced::Tree(numbers, weight) => {
-            if weight == wide(root_weight(t, d, rank)) {
-                return numbers;
-            }
-            0
-        }
+    let traced = trace_checked(t, rules, edges, scope, d, part, trace)?;
+    if traced.weight == wide(root_weight(t, d, rank)) {
+        Some(traced.numbers)
+    } else {
+        None
     }
 }

@@ -15,9 +15,8 @@ use Rattle.derivation.specs.Derivation.{weight}
 use Rattle.derivation.specs.Heard.{path_length, trace}
 use Rattle.derivation.specs.List.{trees}
 use Rattle.checker.specs.Judgement.{fields_from}
-use Rattle.checker.specs.Check.{has_bits, first_with, derivation_of, check, checked_of}
-use Rattle.checker.specs.declared.Checked.{Checked}
-use Rattle.checker.specs.declared.Checked.TheVariants.{Passes, Refused}
+use Rattle.packing.specs.Parse.{Verdict, accepted, refused}
+use Rattle.checker.specs.Check.{has_bits, first_with, derivation_of, check, passed}
 
 -- document 01's grammar G, and four places with edges 0→1, 1→2, 0→2 at cost 3 and 2→3
 abbrev G : List ℕ
@@ -33,13 +32,13 @@ two_words = 16 ∷ 64 ∷ 128 ∷ 80 ∷ 0 ∷ 42 ∷ 0 ∷ 3 ∷ 128 ∷ []
 abbrev one_heard : List ℕ
 one_heard = 81 ∷ 2 ∷ 0 ∷ 95 ∷ 255 ∷ 224 ∷ 12 ∷ 0 ∷ 0 ∷ []
 
-abbrev checks : List ℕ → Checked
-checks reading = checked_of (check G four_places reading)
+abbrev checks : List ℕ → Verdict (Unit {0})
+checks reading = passed (check G four_places reading)
 
 -- the third passes the check as 7 bytes, and as 8 gives 36; with another weight, 35
-pub third : (checks (96 ∷ 128 ∷ 0 ∷ 1 ∷ 16 ∷ 80 ∷ 96 ∷ []) ≡ Passes)
-    × (checks (96 ∷ 128 ∷ 0 ∷ 1 ∷ 16 ∷ 80 ∷ 96 ∷ 0 ∷ []) ≡ Refused 36)
-    × (checks (96 ∷ 128 ∷ 0 ∷ 1 ∷ 80 ∷ 80 ∷ 96 ∷ []) ≡ Refused 35)
+pub third : (checks (96 ∷ 128 ∷ 0 ∷ 1 ∷ 16 ∷ 80 ∷ 96 ∷ []) ≡ accepted tt)
+    × (checks (96 ∷ 128 ∷ 0 ∷ 1 ∷ 16 ∷ 80 ∷ 96 ∷ 0 ∷ []) ≡ refused 36)
+    × (checks (96 ∷ 128 ∷ 0 ∷ 1 ∷ 80 ∷ 80 ∷ 96 ∷ []) ≡ refused 35)
 unfolding num bits_of ended width_of width_from bits_of_all in_range field_at any_like unlike_from rule_from marked_rule_from grammar_from block_by
     marked_block grammar_block
     edge_from graph_from graph_block heard_block trace_entries graph_head_from weight path_length trace trees has_bits fields_from first_with derivation_of
@@ -48,12 +47,12 @@ third = (refl, refl, refl)
 
 -- 34: an edge that does not start where the path stands, a path that does not end at P − 1, an edge number not below E, another mix of
 -- rules; and an edge that was not heard, where the other passes
-pub not_a_walk : (checks (96 ∷ 128 ∷ 0 ∷ 1 ∷ 16 ∷ 16 ∷ 96 ∷ []) ≡ Refused 34)
-    × (checks (96 ∷ 128 ∷ 0 ∷ 0 ∷ 80 ∷ 16 ∷ 32 ∷ []) ≡ Refused 34)
-    × (checks (96 ∷ 128 ∷ 0 ∷ 1 ∷ 16 ∷ 80 ∷ 128 ∷ []) ≡ Refused 34)
-    × (checks (96 ∷ 128 ∷ 0 ∷ 1 ∷ 32 ∷ 160 ∷ 192 ∷ []) ≡ Refused 34)
-    × (checked_of (check two_words one_heard (96 ∷ 64 ∷ 0 ∷ 0 ∷ 192 ∷ 0 ∷ [])) ≡ Refused 34)
-    × (checked_of (check two_words one_heard (96 ∷ 64 ∷ 0 ∷ 0 ∷ 224 ∷ 64 ∷ [])) ≡ Passes)
+pub not_a_walk : (checks (96 ∷ 128 ∷ 0 ∷ 1 ∷ 16 ∷ 16 ∷ 96 ∷ []) ≡ refused 34)
+    × (checks (96 ∷ 128 ∷ 0 ∷ 0 ∷ 80 ∷ 16 ∷ 32 ∷ []) ≡ refused 34)
+    × (checks (96 ∷ 128 ∷ 0 ∷ 1 ∷ 16 ∷ 80 ∷ 128 ∷ []) ≡ refused 34)
+    × (checks (96 ∷ 128 ∷ 0 ∷ 1 ∷ 32 ∷ 160 ∷ 192 ∷ []) ≡ refused 34)
+    × (passed (check two_words one_heard (96 ∷ 64 ∷ 0 ∷ 0 ∷ 192 ∷ 0 ∷ [])) ≡ refused 34)
+    × (passed (check two_words one_heard (96 ∷ 64 ∷ 0 ∷ 0 ∷ 224 ∷ 64 ∷ [])) ≡ accepted tt)
 unfolding num bits_of ended width_of width_from bits_of_all in_range field_at any_like unlike_from rule_from marked_rule_from grammar_from block_by
     marked_block grammar_block
     edge_from graph_from graph_block heard_block trace_entries graph_head_from weight path_length trace trees has_bits fields_from first_with derivation_of
@@ -61,8 +60,8 @@ unfolding num bits_of ended width_of width_from bits_of_all in_range field_at an
 not_a_walk = (refl, refl, refl, refl, refl, refl)
 
 -- 33 for n 0 or above P − 1, 32 for a reading of slots, 31 for fewer bits than n edges need
-pub not_read : (checks (96 ∷ 0 ∷ 0 ∷ 1 ∷ 16 ∷ 80 ∷ 96 ∷ []) ≡ Refused 33) × (checks (97 ∷ 0 ∷ 0 ∷ 1 ∷ 16 ∷ 80 ∷ 96 ∷ []) ≡ Refused 33)
-    × (checks (48 ∷ 128 ∷ 0 ∷ 1 ∷ 16 ∷ 80 ∷ 96 ∷ []) ≡ Refused 32) × (checks (96 ∷ 128 ∷ 0 ∷ 1 ∷ 16 ∷ 80 ∷ []) ≡ Refused 31)
+pub not_read : (checks (96 ∷ 0 ∷ 0 ∷ 1 ∷ 16 ∷ 80 ∷ 96 ∷ []) ≡ refused 33) × (checks (97 ∷ 0 ∷ 0 ∷ 1 ∷ 16 ∷ 80 ∷ 96 ∷ []) ≡ refused 33)
+    × (checks (48 ∷ 128 ∷ 0 ∷ 1 ∷ 16 ∷ 80 ∷ 96 ∷ []) ≡ refused 32) × (checks (96 ∷ 128 ∷ 0 ∷ 1 ∷ 16 ∷ 80 ∷ []) ≡ refused 31)
 unfolding num bits_of ended width_of width_from bits_of_all in_range field_at any_like unlike_from rule_from marked_rule_from grammar_from block_by
     marked_block grammar_block
     edge_from graph_from graph_block heard_block graph_head_from fields_from check

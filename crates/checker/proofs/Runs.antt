@@ -10,6 +10,11 @@ use lib.ListN.{length}
 use Rattle.bits.specs.Bits.{pick, field, ended}
 use Rattle.packing.specs.Meaning.{Grammar, Utterance, Reading, Edge, Graph, Heard, slots, graph, edges}
 use Rattle.packing.specs.Parse.{Parse, parsed, failed, Verdict, accepted, refused, ◌then◌, ◌⟫◌}
+use Rattle.packing.specs.Read.{counted}
+use Rattle.packing.specs.Flat.{RulesIn, rules_of}
+use Rattle.packing.proofs.Flat.{rules_of_lem}
+use Rattle.grammar_reader.specs.Answer.{sizes}
+use Rattle.grammar_reader.specs.declared.Sizes.{Sizes}
 use Rattle.packing.specs.Grammar.{grammar_block}
 use Rattle.packing.specs.Utterance.{utterance_block}
 use Rattle.packing.specs.Graph.{graph_block}
@@ -28,9 +33,9 @@ use Rattle.derivation.proofs.Walk.{walk_weight_lem, walk_none}
 use Rattle.derivation.proofs.HeardReadings.{heard_forward}
 use Rattle.derivation.proofs.Path.{Stands, rules_read_lem, path_weight_lem, path_none}
 use Rattle.checker.specs.Judgement.{walked, headed, fields_from, Has}
-use Rattle.checker.specs.Check.{derivation_of, judged, after_fields, check, checked_of}
-use Rattle.judgement.specs.Weighed.{weighed, walked_of}
-use Rattle.checker.specs.Run.{by_walk, path_walk, by_path, under_rules, checked_by}
+use Rattle.checker.specs.Check.{derivation_of, judged, after_fields, check, passed}
+use Rattle.judgement.specs.Weighed.{weighed}
+use Rattle.checker.specs.Run.{by_walk, path_walk, by_path, under_rules}
 use Rattle.checker.proofs.Judged.{Found, derivation_found, head_read}
 
 -- the walk of the derivation whose reading passes
@@ -38,9 +43,13 @@ abbrev pub walks_of : Verdict Tree → Verdict (List ℕ)
 walks_of v = v then λ t. accepted (walk t)
 
 -- so of the code's answers
-pub passes_walked : (v : Verdict Tree) → checked_by (walked_of (walks_of v)) ≡ checked_of v
-passes_walked (accepted t) = refl
-passes_walked (refused n) = refl
+pub passes_walked : (v : Verdict Tree) {n : ℕ} → accepted n ≡ counted (walks_of v) → accepted tt ≡ passed v
+passes_walked (accepted t) e = refl
+passes_walked (refused m) e = cc
+
+pub refused_walked : (v : Verdict Tree) {n : ℕ} → refused n ≡ counted (walks_of v) → refused n ≡ passed v
+refused_walked (accepted t) e = cc
+refused_walked (refused m) e = cc
 
 -- a judgement by the walk and the weight of what was found
 judged_weighed : (g : Grammar) (es : List Edge) (block : List ℕ) (w at : ℕ) (t : Tree)
@@ -120,3 +129,10 @@ under_rules_lem grammar heard reading g e = rw e (go (eqb (field heard 0 4) 5) (
     go true v p (accepted h) q = graph_run g reading (grammar_block_out grammar g e).0 h (graph_block_out g.words heard h q).0
     go false (refused n) p x q = refl
     go false (accepted u) p x q = slots_run g reading u (utterance_block_out g.words heard u p).0
+
+-- and under those of an array that a grammar was read into
+pub walks_told : (grammar heard reading array : List ℕ) (g : Grammar) (z : Sizes) → grammar_block grammar ≡ accepted g → z ≡ sizes g
+    → RulesIn (grammar_block grammar) array → walks_of (check grammar heard reading) ≡ under_rules z.words (rules_of array z.rules) heard reading
+walks_told grammar heard reading array g z p e stands =
+    let rules = rules_of_lem g array (rw p at stands) in
+    rw (e, rules) (under_rules_lem grammar heard reading g p)

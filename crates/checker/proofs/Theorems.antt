@@ -1,7 +1,7 @@
 -- Demand 2, of the check. In the theorems a grammar block and a block of what was heard are accepted with the meanings g and h
 -- (packing's specs), `Derivation g h t` says that t is a derivation of h under g, `ownBlock g h t` is its packed reading, with its own
 -- weight and cut to its own length (derivation's specs), and `Bytes` says that the numbers of a block are below 256.
-use mathlib.Core.Path.{◌≡◌, refl, ap}
+use mathlib.Core.Path.{◌≡◌, refl, sym, ap, ◌∙◌}
 use mathlib.Core.Logic.{◌↔◌}
 use mathlib.Core.List.{List}
 use Prim.Native.Nat.{ℕ}
@@ -18,9 +18,11 @@ use Rattle.derivation.specs.Derivation.{Tree, Derivation}
 use Rattle.derivation.specs.Heard.{own_block}
 use Rattle.checker.specs.Judgement as J
 use Rattle.checker.specs.Judgement.{OfDerivation, Judgement}
-use Rattle.checker.specs.Check.{check, checked_of}
-use Rattle.checker.specs.declared.Checked.{Checked}
-use Rattle.checker.specs.declared.Checked.TheVariants.{Passes}
+use Rattle.checker.specs.Check.{check, passed}
+use Rattle.std.proofs.Common.{Result, Ok, Err}
+use Rattle.packing.specs.Read.{as_verdict}
+use Rattle.packing.specs.Refusal.{number}
+use Rattle.packing.specs.declared.refusal.Refusal.{Refusal}
 use Rattle.checker.proofs.Passed.{passed_out, passed_back}
 use Rattle.checker.proofs.Refused.{refused_34, refused_35, refused_36, refusal_judged}
 
@@ -44,24 +46,28 @@ module _ (grammar heard block : List ℕ) (bytes : Bytes block) where
 
   -- The check passes a block exactly if there is a derivation of this grammar and of what was heard whose packed reading, with its
   -- true weight, is that block.
-  pub passes : (checked_of (check grammar heard block) ≡ Passes) ↔ OfDerivation grammar heard block
+  pub passes : (passed (check grammar heard block) ≡ accepted tt) ↔ OfDerivation grammar heard block
   unfolding check
   passes = (to (check grammar heard block) refl, from)
     where
-      to : (v : Verdict Tree) → check grammar heard block ≡ v → checked_of v ≡ Passes → OfDerivation grammar heard block
+      to : (v : Verdict Tree) → check grammar heard block ≡ v → passed v ≡ accepted tt → OfDerivation grammar heard block
       to (refused n) e f = let z : ◌≡◌ {A = ℕ} 0 1 = cc in absurd (omega arith)
       to (accepted t) e f =
           granted (grammar_block grammar) _ e λ g p k. granted (heard_block g.words heard) _ k λ h q _.
           let (c, b) = (accepts g h p q t).0 e in
           (g, h, t, p, q, c, b)
 
-      from : OfDerivation grammar heard block → checked_of (check grammar heard block) ≡ Passes
-      from (g, h, t, p, q, c, b) = ap checked_of ((accepts g h p q t).1 (c, b))
+      from : OfDerivation grammar heard block → passed (check grammar heard block) ≡ accepted tt
+      from (g, h, t, p, q, c, b) = ap passed ((accepts g h p q t).1 (c, b))
 
-  -- so of an answer that is the definition's: the promises of `check`
-  pub promised : {r : Checked} → r ≡ checked_of (check grammar heard block)
-      → (r ≡ checked_of (check grammar heard block)) × ((r ≡ Passes) ↔ OfDerivation grammar heard block)
-  promised e = (e, rw e passes)
+  -- so of an answer that the definition tells: the promises of `check`
+  pub promised : {r : Result (Unit {0}) Refusal} → as_verdict r ≡ passed (check grammar heard block)
+      → (as_verdict r ≡ passed (check grammar heard block)) × ((r ≡ Ok tt) ↔ OfDerivation grammar heard block)
+  promised {r} e = (e, go r e)
+    where
+      go : (r : Result (Unit {0}) Refusal) → as_verdict r ≡ passed (check grammar heard block) → (r ≡ Ok tt) ↔ OfDerivation grammar heard block
+      go (Ok u) e = ((λ _. passes.0 (sym e)), λ _. refl)
+      go (Err n) e = ((λ f. cc), λ d. let f : refused (number n) ≡ accepted tt = e ∙ passes.1 d in cc)
 
   -- What the check comes to is what is due.
   pub judged_so : Judgement grammar heard block (check grammar heard block)

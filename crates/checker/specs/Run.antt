@@ -1,10 +1,12 @@
 -- The check's code as functions: the walk and the weight of the derivation by the runs of derivation's Walk and Path. Nobody need believe this page:
 -- the proofs join it to Check. Assumes nothing.
-use Rattle.std.specs.Prelude.{◌≡◌, List, [], ℕ, ◌-◌, ◌*◌, eqb, length}
+use Rattle.std.specs.Prelude.{◌≡◌, List, [], ℕ, ◌-◌, ◌*◌, eqb, length, Result}
 use Rattle.bits.specs.Bits.{pick, field}
 use Rattle.packing.specs.Meaning.{Utterance, Reading, Edge}
 use Rattle.packing.specs.Parse.{Parse, parsed, failed, Verdict, accepted, refused, ◌then◌}
 use Rattle.packing.specs.Source.{bytes}
+use Rattle.packing.specs.Read.{as_verdict, counted}
+use Rattle.packing.specs.declared.refusal.Refusal.{Refusal}
 use Rattle.packing.specs.Utterance.{utterance_block}
 use Rattle.packing.specs.Graph.{graph_block}
 use Rattle.packing.specs.Reading.{reading_from}
@@ -13,10 +15,7 @@ use Rattle.packing.specs.Flat.{Begins}
 use Rattle.packing.specs.declared.Rule as R
 use Rattle.derivation.specs.Walk.{walk_weight}
 use Rattle.derivation.specs.Path.{rules_read, path_weight}
-use Rattle.judgement.specs.declared.Walked as W
-use Rattle.judgement.specs.Weighed.{weighed, walked_of}
-use Rattle.checker.specs.declared.Checked.{Checked}
-use Rattle.checker.specs.declared.Checked.TheVariants.{Passes, Refused}
+use Rattle.judgement.specs.Weighed.{weighed}
 
 -- a reading of slots, by its walk
 abbrev pub by_walk : List R.Rule → Utterance → List ℕ → Parse Reading → Verdict (List ℕ)
@@ -53,10 +52,5 @@ abbrev pub WalkIn : Verdict (List ℕ) → List ℕ → Type 0
 WalkIn (accepted l) array = Begins l array
 WalkIn (refused n) array = Unit {0}
 
-abbrev pub Answered : Verdict (List ℕ) → W.Walked → List ℕ → Type 0
-Answered v r array = (r ≡ walked_of v) × WalkIn v array
-
--- what the check makes of it
-abbrev pub checked_by : W.Walked → Checked
-checked_by (W.TheVariants.Nodes n) = Passes
-checked_by (W.TheVariants.Refused n) = Refused n
+abbrev pub Answered : Verdict (List ℕ) → Result ℕ Refusal → List ℕ → Type 0
+Answered v r array = (as_verdict r ≡ counted v) × WalkIn v array

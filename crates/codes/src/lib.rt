@@ -2,11 +2,11 @@
 #![tactic(auto)]
 
 ghost use Rattle.std.specs.Prelude.{◌≡◌, ◌<◌, pos, neg_ℤ};
-ghost use Rattle.codes.specs.Code.{written_code, SmallWritten, listed_code, SmallListed, checked_code, SmallChecked};
+ghost use Rattle.packing.specs.Read.{as_verdict};
+ghost use Rattle.packing.specs.Refusal.{number};
+ghost use Rattle.codes.specs.Code.{code_of, Small};
 
-use checker::Checked;
-use inputs::Listed;
-use packing::Written;
+use packing::refusal::Refusal;
 
 // A count as a C number.
 pub fn count(n: usize) -> i32
@@ -17,42 +17,26 @@ pub fn count(n: usize) -> i32
 }
 
 // A refusal as a C number.
-pub fn refusal(n: u32) -> i32
-    requires { n < 2147483648 }
-    ensures { result ≡ neg_ℤ (pos n) }
+pub fn refusal(r: Refusal) -> i32
+    ensures { result ≡ neg_ℤ (pos (number r)) }
 {
-    0 - (n as i32)
+    0 - (r.number() as i32)
 }
 
-// A conversion's answer as a C number.
-pub fn written_code(w: Written) -> i32
-    requires { SmallWritten w }
-    ensures { result ≡ written_code w }
+// What a service answers that counts something, the bytes or numbers that it wrote or the entries that it found, as a C number.
+pub fn counted_code(r: Result<usize, Refusal>) -> i32
+    requires { Small r }
+    ensures { result ≡ code_of (λ n. n) (as_verdict r) }
 {
-    match w {
-        Written::Length(n) => count(n),
-        Written::Refused(n) => refusal(n),
-    }
-}
-
-// A listing's answer as a C number.
-pub fn listed_code(l: Listed) -> i32
-    requires { SmallListed l }
-    ensures { result ≡ listed_code l }
-{
-    match l {
-        Listed::Found(m) => count(m),
-        Listed::Refused(n) => refusal(n),
+    match r {
+        Ok(n) => count(n),
+        Err(r) => refusal(r),
     }
 }
 
 // The check's answer as a C number: 0 for a reading that passes.
-pub fn checked_code(c: Checked) -> i32
-    requires { SmallChecked c }
-    ensures { result ≡ checked_code c }
+pub fn checked_code(r: Result<(), Refusal>) -> i32
+    ensures { result ≡ code_of (λ u. 0) (as_verdict r) }
 {
-    match c {
-        Checked::Passes => 0,
-        Checked::Refused(n) => refusal(n),
-    }
+    counted_code(r.map(|()| 0))
 }

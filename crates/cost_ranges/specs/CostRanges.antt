@@ -10,7 +10,7 @@ use Rattle.cost_changes.specs.Passes.{answer}
 use Rattle.chart.specs.WorkTable.{table_size}
 use Rattle.cost_ranges.specs.Conditions.{ranges_conditions}
 use Rattle.cost_ranges.specs.declared.Ranged.{Ranged}
-use Rattle.cost_ranges.specs.declared.Ranged.TheVariants.{Nothing, Outweighed, Stands, Refused}
+use Rattle.cost_ranges.specs.declared.Ranged.TheVariants.{Nothing, Outweighed, Stands}
 
 -- of a grammar and of the utterances with low and high costs, all accepted
 unfoldable pub ranged : Grammar → Utterance → Utterance → ℕ → Verdict Answer
@@ -21,15 +21,14 @@ unfoldable pub ranges : List ℕ → List ℕ → List ℕ → ℕ → Verdict A
 ranges grammar low high work =
     grammar_block grammar then λ g. utterance_block g.words low then λ u. utterance_block g.words high then λ v. ranged g u v work
 
--- the code's answer, and the work table afterwards; a refusal changes nothing
+-- the code's answer
 abbrev pub answered : Answer → Ranged
 answered nothing = Nothing
 answered (outweighed least greatest) = Outweighed (record { least = least; greatest = greatest })
 answered (stands least greatest) = Stands (record { least = least; greatest = greatest })
 
-abbrev pub ranged_of : Verdict Answer → Ranged
-ranged_of (accepted a) = answered a
-ranged_of (refused n) = Refused n
+abbrev pub ranged_of : Verdict Answer → Verdict Ranged
+ranged_of v = v then λ a. accepted (answered a)
 
 -- what is to hold where all is accepted and `AnswerIs a` says that a was answered: it is the answer over all choices of costs between low
 -- and high, and the work table is all zeros

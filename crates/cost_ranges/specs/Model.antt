@@ -1,16 +1,15 @@
 -- The parts of the service's code as functions. Nobody need believe this page: the theorems of proofs/ join it to specs/CostRanges.
-use Rattle.std.specs.Prelude.{◌≡◌, Bool, true, List, ℕ, eqb, length}
+use Rattle.std.specs.Prelude.{◌≡◌, Bool, true, List, ℕ, Result, eqb, length}
 use Rattle.bits.specs.Bits.{pick}
 use Rattle.packing.specs.Meaning.{Grammar, Utterance, slots, edges, Node}
-use Rattle.packing.specs.Parse.{Verdict, ◌then◌}
+use Rattle.packing.specs.Parse.{Verdict}
+use Rattle.packing.specs.Read.{as_verdict}
+use Rattle.packing.specs.declared.refusal.Refusal.{Refusal}
 use Rattle.packing.specs.Flat.{Begins, rule_numbers, edge_numbers, nodes_in}
-use Rattle.packing.specs.Utterance.{utterance_block}
 use Rattle.packing.specs.Valid.{ValidGrammar, ValidUtterance}
 use Rattle.cost_changes.specs.Ranges.{rises, Answer}
-use Rattle.grammar_reader.specs.Answer.{sizes}
-use Rattle.grammar_reader.specs.declared.Sizes.{Sizes}
-use Rattle.heard_reader.specs.Answer.{heard_size}
-use Rattle.heard_reader.specs.declared.HeardSize.{HeardSize}
+use Rattle.inputs.specs.Inputs.{both, inputs_of}
+use Rattle.inputs.specs.declared.Inputs.{Inputs}
 use Rattle.chart_table.specs.Table.{clear}
 use Rattle.chart.specs.Chart.{roots_found, root_trace}
 use Rattle.chart.specs.WorkTable.{work_after}
@@ -50,26 +49,12 @@ module _ (rules low high : List ℕ) (p : Pass) (size : ℕ) where
   left_by = pick (eqb found 0) (clear (table_by rules low p size) p.table) (clear (table_by rules mixed p size) p.table)
 
 -- what is promised of the answer and of the work table afterwards, where this verdict is due
-abbrev pub Promised : Verdict Answer → (work : List ℕ) → Ranged → (work' : List ℕ) → Type 0
-Promised v work r work' = (r ≡ ranged_of v) × (work' ≡ work_after v work)
+abbrev pub Promised : Verdict Answer → (work : List ℕ) → Result Ranged Refusal → (work' : List ℕ) → Type 0
+Promised v work r work' = (as_verdict r ≡ ranged_of v) × (work' ≡ work_after v work)
 
--- what is promised where the edges of both utterances are in arrays, and are alike but for rising costs; where they are not known to be; and
--- where the high block is not read yet
-abbrev pub AlikeRanged : (rules : List ℕ) → Sizes → (low high : List ℕ) → HeardSize → (work : List ℕ) → Ranged → (work' : List ℕ) → Type 0
-AlikeRanged rules z low high y work r work' =
-    (g : Grammar) (u v : Utterance) → ValidGrammar g → ValidUtterance g.words u → ValidUtterance g.words v → z ≡ sizes g
-    → y ≡ heard_size (slots u) → Begins (rule_numbers g) rules → Begins (edge_numbers (edges u)) low → Begins (edge_numbers (edges v)) high
+-- what is promised where the edges of both utterances are in arrays, and are alike but for rising costs
+abbrev pub AlikeRanged : (rules : List ℕ) → Inputs → (low high work : List ℕ) → Result Ranged Refusal → (work' : List ℕ) → Type 0
+AlikeRanged rules z low high work r work' =
+    (g : Grammar) (u v : Utterance) → ValidGrammar g → ValidUtterance g.words u → ValidUtterance g.words v → z ≡ inputs_of (both g (slots u))
+    → Begins (rule_numbers g) rules → Begins (edge_numbers (edges u)) low → Begins (edge_numbers (edges v)) high
     → rises u v ≡ true → Promised (ranged g u v (length work)) work r work'
-
-abbrev pub EdgesRanged : (rules : List ℕ) → Sizes → (low : List ℕ) → HeardSize → (high : List ℕ) → HeardSize → (work : List ℕ) → Ranged
-    → (work' : List ℕ) → Type 0
-EdgesRanged rules z low y high y' work r work' =
-    (g : Grammar) (u v : Utterance) → ValidGrammar g → ValidUtterance g.words u → ValidUtterance g.words v → z ≡ sizes g
-    → y ≡ heard_size (slots u) → y' ≡ heard_size (slots v) → Begins (rule_numbers g) rules → Begins (edge_numbers (edges u)) low
-    → Begins (edge_numbers (edges v)) high → Promised (ranged g u v (length work)) work r work'
-
-abbrev pub LowRanged : (rules : List ℕ) → Sizes → (low : List ℕ) → HeardSize → (high work : List ℕ) → Ranged → (work' : List ℕ) → Type 0
-LowRanged rules z low y high work r work' =
-    (g : Grammar) (u : Utterance) → ValidGrammar g → ValidUtterance g.words u → z ≡ sizes g → y ≡ heard_size (slots u)
-    → Begins (rule_numbers g) rules → Begins (edge_numbers (edges u)) low
-    → Promised (utterance_block g.words high then λ v. ranged g u v (length work)) work r work'

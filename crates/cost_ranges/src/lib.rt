@@ -2,24 +2,25 @@
 // whether the first reading for the low costs can be outweighed.
 #![tactic(auto)]
 
-ghost use Rattle.std.specs.Prelude.{◌≡◌, ◌*◌, ◌≤◌, length, take};
+ghost use Rattle.std.specs.Prelude.{◌≡◌, ◌≤◌, length};
 ghost use Rattle.packing.specs.Flat.{nodes_in};
-ghost use Rattle.grammar_reader.specs.Answer.{Bounded};
+ghost use Rattle.packing.specs.Parse.{accepted};
+ghost use Rattle.packing.specs.Read.{as_verdict};
+ghost use Rattle.inputs.specs.Inputs.{Bounds};
 ghost use Rattle.cost_ranges.specs.CostRanges.{answered, ranges, Meant};
 ghost use Rattle.one_best.specs.Model.{Passable, table_by, weight_by};
 ghost use Rattle.rising_costs.specs.Model.{raise_nodes};
-ghost use Rattle.cost_ranges.specs.Model.{has_least, decide, passed, left_by, AlikeRanged, EdgesRanged, Promised, LowRanged};
+ghost use Rattle.cost_ranges.specs.Model.{has_least, decide, passed, left_by, AlikeRanged, Promised};
 
 use arrays::wide;
-use grammar_reader::Sizes;
-use heard_reader::{HeardRead, HeardSize, read_slots};
-use inputs::{InputsRead, read_slot_inputs};
+use heard_reader::read_slots;
+use inputs::{Inputs, read_slot_inputs};
 use one_best::Pass;
-use packing::format::{EDGES_LENGTH, NUMBERS_PER_NODE, RULES_LENGTH, TRACE_LENGTH};
-use packing::refused;
+use packing::format::{EDGES_LENGTH, RULES_LENGTH, TRACE_LENGTH};
+use packing::refusal::Refusal;
 
 // The least and the greatest first weight.
-#[derive(Clone, Copy)]
+#[derive(Clone, Copy, Debug, PartialEq, Eq)]
 pub struct Weights {
     pub least: u32,
     pub greatest: u32,
@@ -27,12 +28,11 @@ pub struct Weights {
 
 // What the service answers: no derivation, or the weights, where the first reading for the low costs is outweighed under some choice, or
 // under none.
-#[derive(Clone, Copy)]
+#[derive(Clone, Copy, Debug, PartialEq, Eq)]
 pub enum Ranged {
     Nothing,
     Outweighed(Weights),
     Stands(Weights),
-    Refused(u32),
 }
 
 // One reading is looked for in each pass.
@@ -48,25 +48,23 @@ fn first_weight(rules: &[u32], edges: &[u32], pass: Pass, work: &mut [u32]) -> u
     chart::root_weight(work, pass.table, 0)
 }
 
-// The pass over mixed costs, which `costs` has afterwards: whether a tree, whose nodes are traced, has least weight with its own words high and
+// The pass over mixed costs, which `costs` has afterwards: whether a tree, whose nodes are the trace, has least weight with its own words high and
 // all others as in `costs`.
 fn has_least(
     rules: &[u32],
     trace: &[u32],
-    nodes: usize,
     high: &[u32],
     costs: &mut [u32],
     pass: Pass,
     work: &mut [u32],
 ) -> bool
-    requires { (Passable pass) × (nodes ≤ 47) × (2 * nodes ≤ length trace.now) }
-    ensures value { result ≡ has_least rules.now (nodes_in rules.now (take (2 * nodes) trace.now)) high.now
-        costs.old pass (length work.old) }
-    ensures work_after { work.new ≡ table_by rules.now
-        (raise_nodes high.now costs.old (nodes_in rules.now (take (2 * nodes) trace.now))) pass
+    requires { (Passable pass) × (length trace.now ≤ 94) }
+    ensures value { result ≡ has_least rules.now (nodes_in rules.now trace.now) high.now costs.old pass
         (length work.old) }
+    ensures work_after { work.new ≡ table_by rules.now
+        (raise_nodes high.now costs.old (nodes_in rules.now trace.now)) pass (length work.old) }
 {
-    let own = rising_costs::raise_own(rules, trace, nodes, high, costs);
+    let own = rising_costs::raise_own(rules, trace, high, costs);
     let least = first_weight(rules, &costs[..], pass, work);
     own == wide(least)
 }
@@ -97,8 +95,7 @@ fn passes(rules: &[u32], low: &mut [u32], high: &[u32], pass: Pass, work: &mut [
     let mut trace = [0u32; TRACE_LENGTH];
     let numbers = chart::trace_root(&work[..], rules, d, 0, &mut trace);
     let greatest = first_weight(rules, high, pass, work);
-    let nodes = numbers / NUMBERS_PER_NODE;
-    let stands = has_least(rules, &trace, nodes, high, low, pass, work);
+    let stands = has_least(rules, &trace[..numbers], high, low, pass, work);
     chart::clear_table(work, d);
     decide(stands, Weights { least, greatest })
 }
@@ -106,78 +103,46 @@ fn passes(rules: &[u32], low: &mut [u32], high: &[u32], pass: Pass, work: &mut [
 // The answer where the edges are alike but for their costs, and no cost falls.
 fn ranges_alike(
     rules: &[u32],
-    sizes: Sizes,
+    inputs: Inputs,
     low: &mut [u32],
     high: &[u32],
-    heard: HeardSize,
     work: &mut [u32],
-) -> Ranged
-    requires { (Bounded sizes) × (1 ≤ heard.last) × (heard.last ≤ 24) × (heard.edges ≤ 168) }
-    ensures { AlikeRanged rules.now sizes low.old high.now heard work.old result work.new }
+) -> Result<Ranged, Refusal>
+    requires { Bounds inputs }
+    ensures { AlikeRanged rules.now inputs low.old high.now work.old result work.new }
 {
-    let table = chart::lay_out(sizes.symbols as usize, heard.last, ONE);
+    let table = chart::lay_out(inputs.sizes.symbols as usize, inputs.heard.last, ONE);
     if work.len() < chart::table_numbers(table) {
-        return Ranged::Refused(refused::LISTING_WORK);
+        return Err(Refusal::ListingWork);
     }
     let pass = Pass {
-        rules: sizes.rules as usize,
-        edges: heard.edges,
+        rules: inputs.sizes.rules as usize,
+        edges: inputs.heard.edges,
         table,
     };
-    passes(rules, low, high, pass, work)
-}
-
-// The answer for two utterances whose edges are in arrays, under an accepted grammar.
-fn ranges_edges(
-    rules: &[u32],
-    sizes: Sizes,
-    low: &mut [u32],
-    heard: HeardSize,
-    high: &[u32],
-    other: HeardSize,
-    work: &mut [u32],
-) -> Ranged
-    requires { (Bounded sizes) × (1 ≤ heard.last) × (heard.last ≤ 24) × (heard.edges ≤ 168) }
-    ensures { EdgesRanged rules.now sizes low.old heard high.now other work.old result work.new }
-{
-    if rising_costs::both_rise(&low[..], heard, high, other) {
-        return ranges_alike(rules, sizes, low, high, heard, work);
-    }
-    Ranged::Refused(refused::COST_RANGES)
-}
-
-// The answer for an utterance whose edges are in an array and a block of high costs.
-fn ranges_high(
-    rules: &[u32],
-    sizes: Sizes,
-    low: &mut [u32],
-    heard: HeardSize,
-    high: &[u8],
-    work: &mut [u32],
-) -> Ranged
-    requires { (Bounded sizes) × (1 ≤ heard.last) × (heard.last ≤ 24) × (heard.edges ≤ 168) }
-    ensures { LowRanged rules.now sizes low.old heard high.now work.old result work.new }
-{
-    let mut edges = [0u32; EDGES_LENGTH];
-    match read_slots(high, sizes.words, &mut edges) {
-        HeardRead::Refused(n) => Ranged::Refused(n),
-        HeardRead::Heard(other) => { ranges_edges(rules, sizes, low, heard, &edges, other, work) }
-    }
+    Ok(passes(rules, low, high, pass, work))
 }
 
 // The least and the greatest first weight over all choices of costs between the blocks, and whether the first reading for the low costs is
 // outweighed under some choice, with a work table that is all zeros afterwards.
-pub fn cost_ranges(grammar: &[u8], low: &[u8], high: &[u8], work: &mut [u32]) -> Ranged
+pub fn cost_ranges(
+    grammar: &[u8],
+    low: &[u8],
+    high: &[u8],
+    work: &mut [u32],
+) -> Result<Ranged, Refusal>
     ensures promised { Promised (ranges grammar.now low.now high.now (length work.old)) work.old result
         work.new }
-    ensures meant { Meant grammar.now low.now high.now work.old (λ a. result ≡ answered a) work.new }
+    ensures meant { Meant grammar.now low.now high.now work.old
+        (λ a. as_verdict result ≡ accepted (answered a)) work.new }
 {
     let mut rules = [0u32; RULES_LENGTH];
-    let mut edges = [0u32; EDGES_LENGTH];
-    match read_slot_inputs(grammar, low, &mut rules, &mut edges) {
-        InputsRead::Refused(n) => Ranged::Refused(n),
-        InputsRead::Read(inputs) => {
-            ranges_high(&rules, inputs.sizes, &mut edges, inputs.heard, high, work)
-        }
+    let mut lows = [0u32; EDGES_LENGTH];
+    let mut highs = [0u32; EDGES_LENGTH];
+    let inputs = read_slot_inputs(grammar, low, &mut rules, &mut lows)?;
+    let other = read_slots(high, inputs.sizes.words, &mut highs)?;
+    if rising_costs::both_rise(&lows, inputs.heard, &highs, other) {
+        return ranges_alike(&rules, inputs, &mut lows, &highs, work);
     }
+    Err(Refusal::CostRanges)
 }

@@ -1,6 +1,6 @@
 -- The arrays that a grammar was read into give back the grammar: its rules, its block and its sheet.
 -- Assumes nothing.
-use mathlib.Core.Path.{◌≡◌, refl, ap, ◌∙◌}
+use mathlib.Core.Path.{◌≡◌, refl, sym, ap, subst, ◌∙◌}
 use mathlib.Core.Bool.{Bool, true, false}
 use mathlib.Core.List.{List, [], ◌∷◌, ◌++◌, map, map-append, append-nil}
 use Prim.Native.Nat.{ℕ, suc, ◌+◌, ◌*◌, ◌≤◌, ◌<◌}
@@ -9,19 +9,18 @@ use native.Mathlib.Omega.{arith}
 use lib.ListN.{length, length-map, take, get_or}
 use Rattle.packing.specs.Meaning as meaning
 use Rattle.packing.specs.Meaning.{MarkedRule, marked, rule_in, mark_in, grammar_of}
-use Rattle.packing.specs.Parse.{Verdict, accepted, ◌then◌}
+use Rattle.packing.specs.Parse.{Verdict, accepted, refused, ◌then◌}
 use Rattle.packing.specs.Source.{values, value_of}
 use Rattle.packing.specs.Grammar.{rule_entries, rules_entries, marked_rules_entries, marked_entries, block_of_marked, sheet_of_marked}
 use Rattle.packing.specs.Flat.{Begins, rule_numbers, mark_numbers, MarkedIn}
 use Rattle.packing.specs.Store.{store_all}
 use Rattle.packing.specs.declared.Rule.TheVariants.{Pair, Word}
+use Rattle.packing.proofs.Parse.{accepted_is, refused≢accepted}
 use Rattle.packing.proofs.Bounds.{length_rules, length_marked}
 use Rattle.packing.proofs.Flat.{begins_at, stored_begins, marked_rules_of}
-use Rattle.grammar_reader.specs.Answer.{marked_answer}
+use Rattle.grammar_reader.specs.Answer.{sizes, marked_sizes}
 use Rattle.grammar_reader.specs.declared.Sizes.{Sizes}
-use Rattle.grammar_reader.specs.declared.MarkedRead.TheVariants.{Grammar}
 use Rattle.sheet_writer.specs.Arrays.{grammar_fields, block_of, marked_row, marked_rows}
-use Rattle.grammar_reader.proofs.FieldInversion.{of_marked}
 
 -- a sheet without marks has the rules' own numbers
 plain_values : (S W : ℕ) (rs : List MarkedRule) → values (marked_rules_entries false S W rs) ≡ values (rules_entries S W (map rule_in rs))
@@ -111,22 +110,23 @@ module _ (m : meaning.Marked) (l marks : List ℕ) (b : Begins (rule_numbers (gr
       rw (e, size, begun)
 
 -- what a reader's answer tells of what is to be written
-module _ (v : Verdict meaning.Marked) {z : Sizes} {k : Bool} (e : marked_answer v ≡ Grammar z k) (l marks : List ℕ) (b : MarkedIn v l marks) where
-  pub block_told : (v then λ m. accepted (block_of_marked m)) ≡ accepted (block_of (grammar_fields k z.symbols z.words z.rules l marks))
-  block_told =
-      of_marked (λ y j. (v then λ m. accepted (block_of_marked m)) ≡ accepted (block_of (grammar_fields j y.symbols y.words y.rules l marks))) v e
-      (λ m q. let (x, y) = rw q at b in rw q (ap accepted (block_is m l marks x y)))
-
-  pub plain_told : k ≡ false → (v then λ m. accepted (sheet_of_marked m)) ≡ accepted ((z.symbols ∷ z.words ∷ z.rules ∷ []) ++ take (5 * z.rules) l)
-  plain_told =
-      of_marked (λ y j. j ≡ false → (v then λ m. accepted (sheet_of_marked m)) ≡ accepted ((y.symbols ∷ y.words ∷ y.rules ∷ []) ++ take (5 * y.rules) l)) v e
-      (λ m q f. let (x, y) = rw q at b in rw q (ap accepted (plain_is m l marks x y f)))
-
-  pub marked_told : k ≡ true → (joined after : List ℕ) → after ≡ store_all joined 0 (marked_rows l marks 0 z.rules) → 6 * z.rules ≤ length joined
+pub record Told (v : Verdict meaning.Marked) (z : Sizes) (k : Bool) (l marks : List ℕ) : Type 0 where
+  pub block : (v then λ m. accepted (block_of_marked m)) ≡ accepted (block_of (grammar_fields k z.symbols z.words z.rules l marks))
+  pub plain : k ≡ false → (v then λ m. accepted (sheet_of_marked m)) ≡ accepted ((z.symbols ∷ z.words ∷ z.rules ∷ []) ++ take (5 * z.rules) l)
+  pub joined : k ≡ true → (before after : List ℕ) → after ≡ store_all before 0 (marked_rows l marks 0 z.rules) → 6 * z.rules ≤ length before
       → (v then λ m. accepted (sheet_of_marked m)) ≡ accepted ((z.symbols ∷ z.words ∷ z.rules ∷ []) ++ take (6 * z.rules) after)
-  marked_told =
-      of_marked (λ y j. j ≡ true → (joined after : List ℕ) → after ≡ store_all joined 0 (marked_rows l marks 0 y.rules) → 6 * y.rules ≤ length joined
-      → (v then λ m. accepted (sheet_of_marked m)) ≡ accepted ((y.symbols ∷ y.words ∷ y.rules ∷ []) ++ take (6 * y.rules) after)) v e
-      (λ m q t joined after s room.
-      let (x, y) = rw q at b in
-      rw q (ap accepted (marked_is m l marks x y t joined after s (omega (arith, room, length-map m.rules rule_in)))))
+
+made : (m : meaning.Marked) (l marks : List ℕ) → Begins (rule_numbers (grammar_of m)) l → Begins (mark_numbers m) marks
+    → Told (accepted m) (sizes (grammar_of m)) m.marking l marks
+made m l marks b c = record {
+  block = ap accepted (block_is m l marks b c);
+  plain = λ f. ap accepted (plain_is m l marks b c f);
+  joined = λ t before after s room. ap accepted (marked_is m l marks b c t before after s (omega (arith, room, length-map m.rules rule_in)));
+}
+
+pub told : (v : Verdict meaning.Marked) {z : Sizes} {k : Bool} → accepted (z, k) ≡ marked_sizes v → (l marks : List ℕ) → MarkedIn v l marks
+    → Told v z k l marks
+told (accepted m) {z} {k} e l marks (b, c) =
+    let s : (sizes (grammar_of m), m.marking) ≡ (z, k) = sym (accepted_is e) in
+    subst (λ (y : Sizes × Bool). Told (accepted m) y.0 y.1 l marks) s (made m l marks b c)
+told (refused n) e l marks b = absurd (refused≢accepted (sym e))

@@ -1,3 +1,2 @@
 pub mod Grammars
 pub mod BlockInversion
-pub mod FieldInversion

@@ -18,7 +18,8 @@ use packing::format::{
     GRAMMAR_HEAD, MARK_WIDTH, MAX_MARKED_RULE_WIDTH, MAX_RULE_WIDTH, MAX_RULES, RULE_FIXED_WIDTH,
     RULE_KIND_WIDTH, WEIGHT_WIDTH,
 };
-use packing::{Rule, Written, format, refused};
+use packing::refusal::Refusal;
+use packing::{Rule, format};
 
 // At most as many bits as the rules of a grammar take.
 const MAX_RULES_WIDTH: usize = MAX_RULES * MAX_MARKED_RULE_WIDTH;
@@ -39,8 +40,8 @@ fn rule_bits(rule: Rule, symbols: u32, words: u32) -> usize
 {
     let width = width_below(symbols as usize);
     match rule {
-        Rule::Pair(_, _, _, _) => RULE_FIXED_WIDTH + 3 * width,
-        Rule::Word(_, _, _) => RULE_FIXED_WIDTH + width + width_below(words as usize),
+        Rule::Pair(..) => RULE_FIXED_WIDTH + 3 * width,
+        Rule::Word(..) => RULE_FIXED_WIDTH + width + width_below(words as usize),
     }
 }
 
@@ -63,12 +64,9 @@ fn rules_bits(rules: &[u32], form: GrammarForm) -> usize
     ensures { ((marks : List ℕ) → result ≡ widths (rules_fields form.marked form.symbols form.words rules.now marks 0 form.rules))
         × (result ≤ MAX_RULES_WIDTH) }
 {
-    let n = form.rules;
-    let mut total: usize = 0;
-    let mut i: usize = 0;
-    while i < n {
+    let mut total = 0usize;
+    for i in 0..form.rules {
         total += marked_bits(arrays::rule_at(rules, i), form);
-        i += 1;
     }
     total
 }
@@ -134,13 +132,10 @@ fn write_rules(out: &mut [u8], start: usize, form: GrammarForm, rules: &[u32], m
     ensures { out.new ≡ puts out.old start
         (rules_fields form.marked form.symbols form.words rules.now marks.now 0 form.rules) }
 {
-    let n = form.rules;
     let mut at = start;
-    let mut i: usize = 0;
-    while i < n {
+    for i in 0..form.rules {
         let rule = arrays::rule_at(rules, i);
         at = write_marked(out, at, rule, arrays::narrow_at(marks, i), form);
-        i += 1;
     }
 }
 
@@ -150,7 +145,7 @@ fn grammar_length(form: GrammarForm, rules: &[u32]) -> usize
     ensures { (marks : List ℕ) → result ≡ length
         (block_of (grammar_fields form.marked form.symbols form.words form.rules rules.now marks)) }
 {
-    (GRAMMAR_HEAD + rules_bits(rules, form) + 7) / 8
+    (GRAMMAR_HEAD + rules_bits(rules, form)).div_ceil(8)
 }
 
 // The number of a block's kind.
@@ -182,7 +177,13 @@ fn write_fields(out: &mut [u8], form: GrammarForm, rules: &[u32], marks: &[u32])
 }
 
 // The block of a grammar whose rules and marks stand in arrays, in front of what stands beyond it.
-pub fn write_grammar(out: &mut [u8], form: GrammarForm, rules: &[u32], marks: &[u32]) -> Written
+#[tactic(auto, unfolding(packing::specs::Conversion::fitting))]
+pub fn write_grammar(
+    out: &mut [u8],
+    form: GrammarForm,
+    rules: &[u32],
+    marks: &[u32],
+) -> Result<usize, Refusal>
     requires { (form.rules ≤ MAX_RULES) × Ranges form.symbols form.words }
     ensures { Writes (accepted (block_of
         (grammar_fields form.marked form.symbols form.words form.rules rules.now marks.now))) out.old result
@@ -190,8 +191,8 @@ pub fn write_grammar(out: &mut [u8], form: GrammarForm, rules: &[u32], marks: &[
 {
     let length = grammar_length(form, rules);
     if out.len() < length {
-        return Written::Refused(refused::OUTPUT_SHORT);
+        return Err(Refusal::OutputShort);
     }
     write_fields(out, form, rules, marks);
-    Written::Length(length)
+    Ok(length)
 }

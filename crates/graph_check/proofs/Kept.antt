@@ -1,6 +1,7 @@
 -- The loop over a graph's nodes keeps their rule numbers: those of the nodes that were read stand in front of the array, and what is left
 -- is read behind them.
 use mathlib.Core.Path.{◌≡◌, refl}
+use mathlib.Core.Bool.{Bool, true, false}
 use mathlib.Core.List.{List, [], ◌∷◌, ◌++◌, append_assoc, append-nil}
 use Prim.Native.Nat.{ℕ, suc, ◌+◌, ◌-◌, ◌≤◌, ◌<◌}
 use native.Mathlib.Nat.{sub-zero}
@@ -8,10 +9,13 @@ use native.Mathlib.Numerals.{add-one}
 use native.Mathlib.Omega.{arith}
 use lib.ListN.{length, take, set}
 use lib.Seq.{take-suc-set}
+use Rattle.std.proofs.lemmas.List.{take-append-le}
+use Rattle.std.specs.Bool.{then_some}
+use Rattle.graph_check.specs.Edges.{Kept}
 use Rattle.packing.specs.declared.Rule as R
 use Rattle.packing.specs.Meaning.{Node}
 use Rattle.packing.specs.Parse.{Parse, parsed, failed, ◌⟫◌}
-use Rattle.packing.specs.Source.{Source}
+use Rattle.packing.specs.Source.{Source, bytes}
 use Rattle.packing.specs.Flat.{node_rule}
 use Rattle.derivation.specs.Path.{node_from, rules_read}
 
@@ -45,3 +49,9 @@ module _ (rules : List R.Rule) (src : Source) (m : ℕ) (array : List ℕ) where
         let z : m - i ≡ 0 = omega arith in
         let same : i ≡ m = omega arith in
         rw (z, append-nil, same)
+
+-- they stand in front of what is behind them too, whether the derivation's weight is told or not
+pub kept_either : (rules : List R.Rule) (block : List ℕ) (m : ℕ) (array rest : List ℕ) (b : Bool) (w at : ℕ) → m ≤ length array
+    → rules_read rules (bytes 31 block) m 34 ≡ parsed (take m array) at → Kept rules block m (array ++ rest) (then_some b w)
+kept_either rules block m array rest true w at h e = (at, rw take-append-le e)
+kept_either rules block m array rest false w at h e = tt

@@ -6,7 +6,7 @@ use mathlib.Core.Option.{Option, none, some}
 use Prim.Native.Nat.{ℕ, zero, suc, ◌+◌, ◌-◌, ◌≤◌, ◌<◌}
 use native.Mathlib.Omega.{arith}
 use native.Mathlib.Decide.{dec_lt}
-use borrow.Author.Tests.{eq-eqb}
+use borrow.Author.Tests.{eq-eqb, ne_eqb}
 use lib.Dec.{eqb, ltb}
 use lib.ListN.{length, get_or, get_elem?}
 use Rattle.bits.specs.Bits.{pick}
@@ -23,39 +23,38 @@ use Rattle.derivation.specs.Path.{State, onward, stuck, edge_step, pair_step, wo
 use Rattle.derivation.proofs.Lists.{none≢some}
 use Rattle.derivation.proofs.Path.{stuck_none}
 use Rattle.parse_stack.specs.Stack.{heads_of, with_head, fit_of, standing}
-use Rattle.parse_stack.specs.declared.Fit as F
 use Rattle.parse_stack.specs.declared.Progress.{Progress}
-use Rattle.parse_stack.specs.declared.Step.TheVariants.{Onward}
+use Rattle.std.proofs.Common.{Some}
 use Rattle.parse_stack.proofs.Heads.{length_heads, heads_top}
 use Rattle.parse_stack.proofs.Fits.{pair_there, word_there}
 
 -- where no rule fits, whatever its kind
 module _ (place left : ℕ) (A : Sym) (heads : List Sym) (w : ℕ) where
-  pair_lost : (o : Option R.Rule) → with_head A o ≡ F.TheVariants.Nothing → pair_step place left A heads w o ≡ stuck
+  pair_lost : (o : Option R.Rule) → with_head A o ≡ none → pair_step place left A heads w o ≡ stuck
   unfolding pair_step
   pair_lost none e = refl
   pair_lost (some (Word H x v)) e = refl
   pair_lost (some (Pair H B C v)) e = go (eqb H.0 A.0) e
     where
-      go : (b : Bool) → pick b (F.TheVariants.Pair B C v) F.TheVariants.Nothing ≡ F.TheVariants.Nothing
+      go : (b : Bool) → pick b (some (Pair H B C v)) none ≡ none
           → pick b (pick (ltb (suc (length heads)) left) (onward place left (B ∷ C ∷ heads) (w + v)) stuck) stuck ≡ stuck
       go false f = refl
-      go true f = let z : ◌≡◌ {A = ℕ} 0 1 = cc in absurd (omega arith)
+      go true f = cc
 
-  word_lost : (o : Option R.Rule) (a : Option Edge) → with_head A o ≡ F.TheVariants.Nothing → word_step place left A heads w o a ≡ stuck
+  word_lost : (o : Option R.Rule) (a : Option Edge) → with_head A o ≡ none → word_step place left A heads w o a ≡ stuck
   unfolding word_step
   word_lost none a e = refl
   word_lost (some (Pair H B C v)) a e = refl
   word_lost (some (Word H x v)) a e = go left (eqb H.0 A.0) refl e
     where
-      go : (n : ℕ) (b : Bool) → eqb H.0 A.0 ≡ b → pick b (F.TheVariants.Word x v) F.TheVariants.Nothing ≡ F.TheVariants.Nothing
+      go : (n : ℕ) (b : Bool) → eqb H.0 A.0 ≡ b → pick b (some (Word H x v)) none ≡ none
           → word_step place n A heads w (some (Word H x v)) a ≡ stuck
       go zero b t f = refl
       go (suc n) false t f = rw t
-      go (suc n) true t f = let z : ◌≡◌ {A = ℕ} 0 1 = cc in absurd (omega arith)
+      go (suc n) true t f = cc
 
 pub nothing_fits : (rules : List R.Rule) (es : List Edge) (rule : R.Rule) (place left : ℕ) (heads : List Sym) (w r e : ℕ)
-    → fit_of rules heads r ≡ F.TheVariants.Nothing → stuck ≡ step rules es (onward place left heads w) (node_by rule r e)
+    → fit_of rules heads r ≡ none → stuck ≡ step rules es (onward place left heads w) (node_by rule r e)
 unfolding step
 nothing_fits rules es rule place left [] w r e f = refl
 nothing_fits rules es (Pair H B C v) place left (A ∷ heads) w r e f = sym (pair_lost place left A heads w (get_elem? rules r) f)
@@ -80,8 +79,8 @@ module _ (array : List ℕ) (count : ℕ) (es : List Edge) (stack : List ℕ) (a
   abbrev below : List Sym
   below = heads_of stack (at.height - 1)
 
-  pub pair_fits : {B C : Sym} {v : ℕ} → fit_of rules (heads_of stack at.height) r ≡ F.TheVariants.Pair B C v
-      → step rules es (standing stack (Onward at)) node
+  pub pair_fits : {H B C : Sym} {v : ℕ} → fit_of rules (heads_of stack at.height) r ≡ some (Pair H B C v)
+      → step rules es (standing stack (Some at)) node
       ≡ pick (ltb at.height at.left) (onward at.place at.left (B ∷ C ∷ below) (at.weight + v)) stuck
   unfolding step pair_step
   pair_fits f =
@@ -96,10 +95,10 @@ module _ (array : List ℕ) (count : ℕ) (es : List Edge) (stack : List ℕ) (a
         n,
       )
 
-  pub word_fits : {x : W.Word} {v : ℕ} → at.height ≤ at.left → fit_of rules (heads_of stack at.height) r ≡ F.TheVariants.Word x v
-      → step rules es (standing stack (Onward at)) node ≡ edge_step x at.place (at.left - 1) below (at.weight + v) (get_elem? es e)
+  pub word_fits : {H : Sym} {x : W.Word} {v : ℕ} → at.height ≤ at.left → fit_of rules (heads_of stack at.height) r ≡ some (Word H x v)
+      → step rules es (standing stack (Some at)) node ≡ edge_step x at.place (at.left - 1) below (at.weight + v) (get_elem? es e)
   unfolding step word_step
-  word_fits {x} {v} l f =
+  word_fits {H} {x} {v} l f =
       let (h, there) = word_there rules stack at.height r f in
       let n : at.left ≡ suc (at.left - 1) = omega arith in
       rw (rule_is array count r there, heads_top stack at.height h)
@@ -129,11 +128,13 @@ module _ (rules : List R.Rule) (es : List Edge) (src : Source) (last m i : ℕ) 
   all_read h = let z : m - i ≡ 0 = omega arith in rw z
 
 -- a path has ended where none of its edges is left and its place is the last
-module _ (stack : List ℕ) (at : Progress) (last : ℕ) where
-  pub at_end : at.left ≡ 0 → at.height ≤ at.left → finished last (standing stack (Onward at)) ≡ pick (eqb at.place last) (some at.weight) none
-  unfolding finished heads_of
-  at_end e l = let n : at.height ≡ 0 = omega arith in rw (e, n)
-
-  pub not_at_end : (at.left ≡ 0 → ⊥) → finished last (standing stack (Onward at)) ≡ none
-  unfolding finished
-  not_at_end f = let n : at.left ≡ suc (at.left - 1) = omega arith in rw n
+pub at_end : (stack : List ℕ) (at : Progress) (last : ℕ) → at.height ≤ at.left → finished last (standing stack (Some at))
+    ≡ pick (eqb at.left 0) (pick (eqb at.place last) (some at.weight) none) none
+unfolding finished heads_of
+at_end stack at last l = go at.left at.height l
+  where
+    go : (left height : ℕ) → height ≤ left → finished last (onward at.place left (heads_of stack height) at.weight)
+        ≡ pick (eqb left 0) (pick (eqb at.place last) (some at.weight) none) none
+    go zero zero l = refl
+    go zero (suc n) l = absurd (omega arith)
+    go (suc m) n l = rw (ne_eqb (suc m) 0 (λ e. omega arith))

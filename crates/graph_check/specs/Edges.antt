@@ -1,6 +1,7 @@
 -- The edges of an array, four numbers each, and the cost of one; the rule numbers that a run keeps. Nobody need believe this page: no
 -- service's promise names it. Assumes nothing.
-use Rattle.std.specs.Prelude.{◌≡◌, List, [], ◌∷◌, ℕ, zero, suc, ◌+◌, ◌*◌, eqb, ltb, get_or, take}
+use Rattle.std.specs.Prelude.{◌≡◌, List, [], ◌∷◌, ℕ, zero, suc, ◌+◌, ◌*◌, eqb, ltb, get_or, take, Some, None}
+use Rattle.std.specs.Prelude as std
 use Rattle.std.proofs.Math.Option.{Option, none, some}
 use Rattle.bits.specs.Bits.{pick}
 use Rattle.packing.specs.declared.Word as W
@@ -9,8 +10,6 @@ use Rattle.packing.specs.Meaning.{not_heard, Edge, edge, word}
 use Rattle.packing.specs.Parse.{parsed}
 use Rattle.packing.specs.Source.{bytes}
 use Rattle.derivation.specs.Path.{rules_read}
-use Rattle.parse_stack.specs.declared.Found.{Found}
-use Rattle.parse_stack.specs.declared.Found.TheVariants.{Number, Nothing}
 
 -- edge e of an array
 abbrev pub edge_at : List ℕ → ℕ → Edge
@@ -30,6 +29,6 @@ cost_at x place none = none
 cost_at x place (some (edge i k y c)) = pick (eqb i place) (pick (eqb y.0 x.0) (pick (ltb c not_heard) (some c) none) none) none
 
 -- where a run found a derivation of m nodes, their rule numbers stand at the front of the array
-abbrev pub Kept : List R.Rule → List ℕ → ℕ → List ℕ → Found → Type 0
-Kept rules block m array (Number w) = (next : ℕ) × (rules_read rules (bytes 31 block) m 34 ≡ parsed (take m array) next)
-Kept rules block m array Nothing = Unit {0}
+abbrev pub Kept : List R.Rule → List ℕ → ℕ → List ℕ → std.Option ℕ → Type 0
+Kept rules block m array (Some w) = (next : ℕ) × (rules_read rules (bytes 31 block) m 34 ≡ parsed (take m array) next)
+Kept rules block m array None = Unit {0}

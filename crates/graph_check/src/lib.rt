@@ -5,16 +5,16 @@ ghost use Rattle.std.specs.Prelude.{◌≡◌, List, ℕ, ◌+◌, ◌-◌, ◌*
 ghost use Rattle.std.proofs.Math.ListN.{get_elem?};
 ghost use Rattle.packing.specs.Flat.{rule_at, rules_of, node_by};
 ghost use Rattle.derivation.specs.Path.{edge_step, step, path_weight};
-ghost use Rattle.parse_stack.specs.Stack.{heads_of, number_of, standing, Small, Within, Further};
+ghost use Rattle.parse_stack.specs.Stack.{heads_of, option_of, standing, Small, Within, Further};
 ghost use Rattle.graph_check.specs.Edges.{edges_of, cost_at, Kept};
 
-use graph_reading_reader::{Node, NodeRead};
-use packing::Word;
+use graph_reading_reader::Node;
 use packing::format::{
     EDGE_COST_AT, EDGE_TO_AT, EDGE_WORD_AT, GRAPH_READING_HEAD, MAX_PATH_EDGES, MAX_RULES,
     NOT_HEARD, NUMBERS_PER_EDGE,
 };
-use parse_stack::{Fit, Found, MAX_PARTS, Progress, Step};
+use packing::{Rule, Word};
+use parse_stack::{MAX_PARTS, Progress};
 
 // A graph whose edges stand in an array: how many they are, and its last place.
 #[derive(Clone, Copy)]
@@ -27,25 +27,22 @@ pub struct Graph {
 const UNHEARD: usize = NOT_HEARD as usize;
 
 // The cost of an edge, if there is one of that number, and it starts at the place, carries the word and was heard.
-fn cost_of(edges: &[u32], count: usize, place: usize, word: Word, edge: usize) -> Found
+fn cost_of(edges: &[u32], count: usize, place: usize, word: Word, edge: usize) -> Option<usize>
     requires { edge < 2 ^ 32 }
-    ensures { (number_of result ≡ cost_at word place (get_elem? (edges_of edges.now count) edge)) × Small result }
+    ensures { (option_of result ≡ cost_at word place (get_elem? (edges_of edges.now count) edge)) × Small result }
 {
     if count <= edge {
-        return Found::Nothing;
+        return None;
     }
     let at = NUMBERS_PER_EDGE * edge;
-    if arrays::number_at(edges, at) == place {
-        if arrays::number_at(edges, at + EDGE_WORD_AT) == arrays::wide(word.0) {
-            let cost = arrays::number_at(edges, at + EDGE_COST_AT);
-            if cost < UNHEARD {
-                return Found::Number(cost);
-            }
-            return Found::Nothing;
-        }
-        return Found::Nothing;
+    let cost = arrays::number_at(edges, at + EDGE_COST_AT);
+    if arrays::number_at(edges, at) == place
+        && arrays::number_at(edges, at + EDGE_WORD_AT) == arrays::wide(word.0)
+        && cost < UNHEARD
+    {
+        return Some(cost);
     }
-    Found::Nothing
+    None
 }
 
 // A word rule: the edge is taken, if the path can go along it by the word.
@@ -56,17 +53,14 @@ fn edge_step(
     word: Word,
     weight: u32,
     edge: usize,
-) -> Step
+) -> Option<Progress>
     requires { (1 ≤ at.height) × Within at.left at × (edge < 2 ^ 32) }
     ensures { ((stack : List ℕ) → standing stack result
         ≡ edge_step word at.place (at.left - 1) (heads_of stack (at.height - 1)) (at.weight + weight) (get_elem? (edges_of edges.now count) edge))
         × Further at result }
 {
-    let place = at.place;
-    let Found::Number(cost) = cost_of(edges, count, place, word, edge) else {
-        return Step::Stuck;
-    };
-    Step::Onward(Progress {
+    let cost = cost_of(edges, count, at.place, word, edge)?;
+    Some(Progress {
         place: arrays::number_at(edges, NUMBERS_PER_EDGE * edge + EDGE_TO_AT),
         left: at.left - 1,
         height: at.height - 1,
@@ -83,18 +77,18 @@ fn follow(
     stack: &mut [u32],
     at: Progress,
     node: Node,
-) -> Step
+) -> Option<Progress>
     requires { (node.rule < 2 ^ 32) × (node.edge < 2 ^ 32) × Within (length stack.old) at }
     ensures { (standing stack.new result
-        ≡ step (rules_of rules.now count) (edges_of edges.now graph.edges) (standing stack.old (Step.Onward at))
+        ≡ step (rules_of rules.now count) (edges_of edges.now graph.edges) (standing stack.old (Some at))
         (node_by (rule_at rules.now node.rule) node.rule node.edge)) × Further at result }
 {
-    match parse_stack::fitting(rules, count, stack, at.height, node.rule) {
-        Fit::Nothing => Step::Stuck,
-        Fit::Pair(first, second, weight) => {
+    let rule = parse_stack::fitting(rules, count, stack, at.height, node.rule)?;
+    match rule {
+        Rule::Pair(_, first, second, weight) => {
             parse_stack::pair_step(stack, at, first, second, weight)
         }
-        Fit::Word(word, weight) => { edge_step(edges, graph.edges, at, word, weight, node.edge) }
+        Rule::Word(_, word, weight) => edge_step(edges, graph.edges, at, word, weight, node.edge),
     }
 }
 
@@ -108,9 +102,9 @@ pub fn weight_of(
     n: usize,
     block: &[u8],
     walk: &mut [u32],
-) -> Found
+) -> Option<usize>
     requires { (1 ≤ count) × (count ≤ MAX_RULES) × (1 ≤ n) × (n ≤ MAX_PATH_EDGES) × (2 * n - 1 ≤ length walk.old) }
-    ensures { (number_of result ≡ path_weight (rules_of rules.now count) (edges_of edges.now graph.edges) graph.last n
+    ensures { (option_of result ≡ path_weight (rules_of rules.now count) (edges_of edges.now graph.edges) graph.last n
         block.now)
         × Kept (rules_of rules.now count) block.now (2 * n - 1) walk.new result }
 {
@@ -121,27 +115,12 @@ pub fn weight_of(
         height: 1,
         weight: 0,
     };
-    let nodes = 2 * n - 1;
     let mut bit = GRAPH_READING_HEAD;
-    let mut i: usize = 0;
-    while i < nodes {
-        let NodeRead::Node(node, c) = graph_reading_reader::read_node(rules, count, block, bit)
-        else {
-            return Found::Nothing;
-        };
-        let Step::Onward(next) = follow(rules, count, edges, graph, &mut stack, at, node) else {
-            return Found::Nothing;
-        };
-        walk[i] = node.rule as u32;
-        at = next;
-        bit = c.at;
-        i += 1;
+    for number in &mut walk[..2 * n - 1] {
+        let (node, next) = graph_reading_reader::read_node(rules, count, block, bit)?;
+        at = follow(rules, count, edges, graph, &mut stack, at, node)?;
+        *number = node.rule as u32;
+        bit = next;
     }
-    if at.left == 0 {
-        if at.place == graph.last {
-            return Found::Number(at.weight);
-        }
-        return Found::Nothing;
-    }
-    Found::Nothing
+    (at.left == 0 && at.place == graph.last).then_some(at.weight)
 }

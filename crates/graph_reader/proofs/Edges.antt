@@ -14,44 +14,25 @@ use Rattle.packing.proofs.Widths.{byte_width}
 use Rattle.slots_reader.specs.Placed.{candidate_from}
 use Rattle.packing.specs.Graph.{start_place, end_place, edge_word, edge_from, edge_entries}
 use Rattle.packing.proofs.Graph.{edge_out}
-use Rattle.graph_reader.specs.Parts.{edge_of}
-use Rattle.graph_reader.specs.declared.EdgeRead.TheVariants.{Edge, Refused}
 
 module _ (src : Source) (W P : ℕ) where
-  -- the ways out of the reading of an edge
-  module _ (at : ℕ) where
-    pub no_start : {n : ℕ} → field_at src at start_place ≡ failed n → Refused n ≡ edge_of (edge_from src W P at)
-    unfolding edge_from
-    no_start e = rw e
+  -- behind its places it is a candidate
+  abbrev by_candidate : ℕ → ℕ → M.Candidate → ℕ → Parse M.Edge
+  by_candidate i k (candidate w c) at = parsed (edge i k w c) at
 
-    module _ {i a : ℕ} (e : field_at src at start_place ≡ parsed i a) where
-      pub no_end : {n : ℕ} → field_at src a (end_place P i) ≡ failed n → Refused n ≡ edge_of (edge_from src W P at)
-      unfolding edge_from
-      no_end f = rw (e, f)
+  pub as_candidate : (at i a k b : ℕ) → parsed i a ≡ field_at src at start_place → parsed k b ≡ field_at src a (end_place P i)
+      → edge_from src W P at ≡ (candidate_from src W 0 b ⟫ by_candidate i k)
+  unfolding edge_from candidate_from
+  as_candidate at i a k b e f = rw (← e, ← f) (first (field_at src b (edge_word W)))
+    where
+      second : (w : ℕ) (x : Parse ℕ) → (x ⟫ λ c at. parsed (edge i k (word w) c) at) ≡ ((x ⟫ λ c at. parsed (candidate (word w) c) at) ⟫ by_candidate i k)
+      second w (parsed c at) = refl
+      second w (failed m) = refl
 
-      module _ {k b : ℕ} (f : field_at src a (end_place P i) ≡ parsed k b) where
-        abbrev by_candidate : M.Candidate → ℕ → Parse M.Edge
-        by_candidate (candidate w c) at = parsed (edge i k w c) at
-
-        as_candidate : edge_from src W P at ≡ (candidate_from src W 0 b ⟫ by_candidate)
-        unfolding edge_from candidate_from
-        as_candidate = rw (e, f) (first (field_at src b (edge_word W)))
-          where
-            second : (w : ℕ) (x : Parse ℕ) → (x ⟫ λ c at. parsed (edge i k (word w) c) at) ≡ ((x ⟫ λ c at. parsed (candidate (word w) c) at) ⟫ by_candidate)
-            second w (parsed c at) = refl
-            second w (failed m) = refl
-
-            first : (x : Parse ℕ) → (x ⟫ λ w at. field_at src at cost ⟫ λ c at. parsed (edge i k (word w) c) at)
-                ≡ ((x ⟫ λ w at. field_at src at cost ⟫ λ c at. parsed (candidate (word w) c) at) ⟫ by_candidate)
-            first (parsed w at) = second w (field_at src at cost)
-            first (failed m) = refl
-
-        pub no_candidate : {n : ℕ} → candidate_from src W 0 b ≡ failed n → Refused n ≡ edge_of (edge_from src W P at)
-        no_candidate h = rw (as_candidate, h)
-
-        pub whole_edge : {w c next : ℕ} → candidate_from src W 0 b ≡ parsed (candidate (word w) c) next
-            → Edge i k w c (record { at = next }) ≡ edge_of (edge_from src W P at)
-        whole_edge h = rw (as_candidate, h)
+      first : (x : Parse ℕ) → (x ⟫ λ w at. field_at src at cost ⟫ λ c at. parsed (edge i k (word w) c) at)
+          ≡ ((x ⟫ λ w at. field_at src at cost ⟫ λ c at. parsed (candidate (word w) c) at) ⟫ by_candidate i k)
+      first (parsed w at) = second w (field_at src at cost)
+      first (failed m) = refl
 
   -- an edge that was read: its numbers have room in a key, and it takes at most 34 bits
   module _ (few : W ≤ 200) (small : P ≤ 25) where

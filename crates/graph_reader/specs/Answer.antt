@@ -1,20 +1,15 @@
 -- What the reader of graph blocks answers: document 02, N1. Nobody need believe this page: no service's promise names it. Assumes
 -- nothing.
-use Rattle.std.specs.Prelude.{List, ℕ, ◌≤◌, length}
+use Rattle.std.specs.Prelude.{List, ℕ, ◌≤◌, length, Result, Ok, Err}
 use Rattle.packing.specs.Meaning as M
 use Rattle.packing.specs.Parse.{Verdict, accepted, refused}
 use Rattle.packing.specs.Flat.{Begins, Overlaid, edge_numbers}
+use Rattle.packing.specs.declared.refusal.Refusal.{Refusal}
 use Rattle.graph_reader.specs.declared.GraphSize.{GraphSize}
-use Rattle.graph_reader.specs.declared.GraphRead.{GraphRead}
-use Rattle.graph_reader.specs.declared.GraphRead.TheVariants.{Graph, Refused}
 
--- P and the number of edges, or the refusal
+-- P and the number of edges
 abbrev pub graph_size : M.Graph → GraphSize
 graph_size g = record { places = g.places; edges = length g.edges }
-
-abbrev pub graph_read : Verdict M.Graph → GraphRead
-graph_read (accepted g) = Graph (graph_size g)
-graph_read (refused n) = Refused n
 
 -- the edges stand at the front of the array, four numbers each
 abbrev pub EdgesIn : Verdict M.Graph → List ℕ → Type 0
@@ -27,6 +22,6 @@ EdgesOver (accepted g) before array = Overlaid (edge_numbers g.edges) before arr
 EdgesOver (refused n) before array = Unit {0}
 
 -- from 2 to 25 places and from 1 to 96 edges
-abbrev pub Sized : GraphRead → Type 0
-Sized (Graph z) = (2 ≤ z.places) × (z.places ≤ 25) × (1 ≤ z.edges) × (z.edges ≤ 96)
-Sized (Refused n) = Unit {0}
+abbrev pub Sized : Result GraphSize Refusal → Type 0
+Sized (Ok z) = (2 ≤ z.places) × (z.places ≤ 25) × (1 ≤ z.edges) × (z.edges ≤ 96)
+Sized (Err r) = Unit {0}

@@ -1,6 +1,8 @@
--- The stages of a graph's reading: each way out of the reader is one of them. Assumes nothing.
-use mathlib.Core.Path.{◌≡◌}
-use mathlib.Core.Bool.{true, false}
+-- When a block is too short, and the stages of a node: each way out of the reader is one of them. Assumes nothing.
+use Rattle.std.proofs.Common.{Result, Ok, Err, IfOk, Some, None}
+use Rattle.std.proofs.lemmas.Result.{IfOk-at_ok}
+use Rattle.std.specs.Result.{result_ok}
+use mathlib.Core.Path.{◌≡◌, refl, sym}
 use mathlib.Core.List.{List}
 use mathlib.Core.Option.{none, some}
 use Prim.Native.Nat.{ℕ, ◌+◌, ◌*◌, ◌/◌, ◌<◌}
@@ -14,11 +16,13 @@ use Rattle.packing.specs.declared.Sym.{Sym}
 use Rattle.packing.specs.declared.Word as W
 use Rattle.packing.specs.declared.Rule as R
 use Rattle.packing.specs.declared.Rule.TheVariants.{Pair, Word}
-use Rattle.packing.specs.Parse.{parsed, failed}
-use Rattle.packing.specs.Source.{Source, bytes, field_at}
-use Rattle.packing.specs.Grammar.{block_kind}
-use Rattle.packing.specs.Reading.{reading_weight, rule_number}
-use Rattle.packing.specs.GraphReading.{path_edges, edge_number, graph_reading_bits, graph_head_from}
+use Rattle.packing.specs.Read.{as_parse}
+use Rattle.packing.specs.Refusal.{number}
+use Rattle.packing.specs.declared.refusal.Refusal.{Refusal}
+use Rattle.packing.specs.Parse.{Parse, parsed, failed}
+use Rattle.packing.specs.Source.{Source, field_at}
+use Rattle.packing.specs.Reading.{rule_number}
+use Rattle.packing.specs.GraphReading.{edge_number}
 use Rattle.derivation.specs.Path.{node_by, node_from}
 
 -- whole bytes are too few exactly when their bits are
@@ -29,33 +33,25 @@ bytes_lack m n = go (dec_lt (8 * m) n)
     go (yes h) = rw (lt-ltb (8 * m) n h, lt-ltb m ((n + 7) / 8) (omega arith))
     go (no h) = rw (le-ltb (8 * m) n (omega arith), le-ltb m ((n + 7) / 8) (omega arith))
 
--- n and the weight
-module _ (most R : ℕ) (s : List ℕ) where
-  abbrev src : Source
-  src = bytes 31 s
+-- what a result's value or error says, where `ok` told which it is
+module _ {A E : Type 0} where
+  ok_is : (r : Result A E) {x : A} → Some x ≡ result_ok r → r ≡ Ok x
+  ok_is (Ok y) e = cc
+  ok_is (Err y) e = cc
 
-  pub no_kind : {n : ℕ} → field_at src 0 (block_kind 6 32) ≡ failed n → graph_head_from most R s ≡ failed n
-  unfolding graph_head_from
-  no_kind p = rw p
+  pub so_of : (r : Result A E) (P : A → Type 0) {x : A} → IfOk r P → Some x ≡ result_ok r → P x
+  so_of r P h e = IfOk-at_ok P (ok_is r e) h
 
-  module _ (a : ℕ) {kind : ℕ} (p : field_at src 0 (block_kind 6 32) ≡ parsed kind a) where
-    pub no_edges : {n : ℕ} → field_at src a (path_edges most) ≡ failed n → graph_head_from most R s ≡ failed n
-    unfolding graph_head_from
-    no_edges q = rw (p, q)
+  err_is : (r : Result A E) → None ≡ result_ok r → (y : E) × (r ≡ Err y)
+  err_is (Ok y) e = cc
+  err_is (Err y) e = (y, refl)
 
-    module _ (b : ℕ) {n : ℕ} (q : field_at src a (path_edges most) ≡ parsed n b) where
-      pub too_short : ltb (8 * length s) (graph_reading_bits n R) ≡ true → graph_head_from most R s ≡ failed 31
-      unfolding graph_head_from
-      too_short l = rw (p, q, l)
+module _ (r : Result (ℕ × ℕ) Refusal) {p : Parse ℕ} (e : as_parse r ≡ p) where
+  pub was_read : {v next w : ℕ} → Some (v, next) ≡ result_ok r → w ≡ v → p ≡ parsed w next
+  was_read {v} {next} o q = rw q (sym (rw (ok_is r o) at e))
 
-      module _ (l : ltb (8 * length s) (graph_reading_bits n R) ≡ false) where
-        pub no_weight : {m : ℕ} → field_at src b reading_weight ≡ failed m → graph_head_from most R s ≡ failed m
-        unfolding graph_head_from
-        no_weight r = rw (p, q, l, r)
-
-        pub head_read : {w c : ℕ} → field_at src b reading_weight ≡ parsed w c → graph_head_from most R s ≡ parsed (record { edges = n; weight = w }) c
-        unfolding graph_head_from
-        head_read r = rw (p, q, l, r)
+  pub was_refused : None ≡ result_ok r → (n : ℕ) × (p ≡ failed n)
+  was_refused o = let (y, q) = err_is r o in (number y, sym (rw q at e))
 
 -- a node
 module _ (rules : List R.Rule) (src : Source) (at : ℕ) where

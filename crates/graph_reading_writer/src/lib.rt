@@ -1,7 +1,7 @@
 // Reading blocks of graphs: measured, and written with the zeros behind them.
 #![tactic(auto)]
 
-ghost use Rattle.std.specs.Prelude.{◌≡◌, ◌++◌, ◌+◌, ◌-◌, ◌*◌, ◌^◌, ◌≤◌, ◌<◌, length, take, drop, replicate};
+ghost use Rattle.std.specs.Prelude.{◌≡◌, ◌++◌, ◌+◌, ◌-◌, ◌*◌, ◌^◌, ◌≤◌, ◌<◌, length, take, drop};
 ghost use Rattle.bits.specs.Fields.{widths};
 ghost use Rattle.bits.specs.Put.{puts};
 ghost use Rattle.packing.specs.Source.{flds};
@@ -21,19 +21,7 @@ pub fn graph_reading_length(n: usize, rules: usize) -> usize
     ensures { result ≡ graph_reading_length n rules }
 {
     let width = bits::width_below(rules);
-    (GRAPH_READING_HEAD + (2 * n - 1) * width + EDGE_NUMBER_WIDTH * n + 7) / 8
-}
-
-// Makes the first `size` bytes zero.
-fn clear(out: &mut [u8], size: usize)
-    requires { size ≤ length out.old }
-    ensures { out.new ≡ replicate size 0 ++ drop size out.old }
-{
-    let mut i: usize = 0;
-    while i < size {
-        out[i] = 0;
-        i += 1;
-    }
+    (GRAPH_READING_HEAD + (2 * n - 1) * width + EDGE_NUMBER_WIDTH * n).div_ceil(8)
 }
 
 // A node, from bit `at`: its rule's number, and a word rule's edge. The answer is the next bit.
@@ -44,15 +32,13 @@ fn write_node(out: &mut [u8], at: usize, width: usize, rules: &[u32], rule: u32,
 {
     bit_writer::write_field(out, at, width, rule);
     let next = at + width;
-    let kind = rule_at(rules, wide(rule));
-    match kind {
-        Rule::Pair(_, _, _, _) => {
-            return next;
+    match rule_at(rules, wide(rule)) {
+        Rule::Pair(..) => next,
+        Rule::Word(..) => {
+            bit_writer::write_field(out, next, EDGE_NUMBER_WIDTH, edge);
+            next + EDGE_NUMBER_WIDTH
         }
-        Rule::Word(_, _, _) => {}
     }
-    bit_writer::write_field(out, next, EDGE_NUMBER_WIDTH, edge);
-    next + EDGE_NUMBER_WIDTH
 }
 
 // The first n nodes of a trace, behind the fields at the front.
@@ -63,11 +49,9 @@ fn write_trace(out: &mut [u8], rules: &[u32], count: usize, trace: &[u32], n: us
 {
     let width = bits::width_below(count);
     let mut at = GRAPH_READING_HEAD;
-    let mut i: usize = 0;
-    while i < n {
+    for i in 0..n {
         let p = NUMBERS_PER_NODE * i;
         at = write_node(out, at, width, rules, trace[p], trace[p + 1]);
-        i += 1;
     }
 }
 
@@ -88,7 +72,7 @@ pub fn write_graph_reading(
     ensures { out.new ≡ padded size (block_of_graph_reading count (graph_reading_of rules.now n weight trace.now))
         ++ drop size out.old }
 {
-    clear(out, size);
+    out[..size].fill(0);
     bit_writer::write_field(out, 0, format::KIND_WIDTH, format::GRAPH_READING_BLOCK);
     bit_writer::write_field(
         out,

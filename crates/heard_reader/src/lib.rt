@@ -6,9 +6,8 @@ ghost use Rattle.bits.specs.Bits.{field};
 ghost use Rattle.packing.specs.Heard.{as_slots, as_graph, heard_block};
 ghost use Rattle.heard_reader.specs.Answer.{Promised};
 
-use graph_reader::GraphRead;
 use packing::format::{EDGES_LENGTH, GRAPH_BLOCK, MAX_WORDS, SLOTS_LENGTH};
-use utterance_reader::UtteranceRead;
+use packing::refusal::Refusal;
 
 // Whether it is a graph, its last place, and the number of edges.
 #[derive(Clone, Copy)]
@@ -16,13 +15,6 @@ pub struct HeardSize {
     pub graph: bool,
     pub last: usize,
     pub edges: usize,
-}
-
-// What reading a block gives.
-#[derive(Clone, Copy)]
-pub enum HeardRead {
-    Heard(HeardSize),
-    Refused(u32),
 }
 
 // Whether a block's kind is a graph's.
@@ -33,42 +25,35 @@ pub fn is_graph(block: &[u8]) -> bool
 }
 
 // A block read as a graph.
-fn read_graph(block: &[u8], words: u32, edges: &mut [u32]) -> HeardRead
+fn read_graph(block: &[u8], words: u32, edges: &mut [u32]) -> Result<HeardSize, Refusal>
     requires { (0 < words) × (words ≤ MAX_WORDS) × (EDGES_LENGTH ≤ length edges.old) }
     ensures { Promised (as_graph words block.now) edges.old edges.new result }
 {
-    match graph_reader::read_graph(block, words, edges) {
-        GraphRead::Refused(n) => HeardRead::Refused(n),
-        GraphRead::Graph(size) => HeardRead::Heard(HeardSize {
-            graph: true,
-            last: size.places - 1,
-            edges: size.edges,
-        }),
-    }
+    let size = graph_reader::read_graph(block, words, edges)?;
+    Ok(HeardSize {
+        graph: true,
+        last: size.places - 1,
+        edges: size.edges,
+    })
 }
 
 // A block read as slots.
-pub fn read_slots(block: &[u8], words: u32, edges: &mut [u32]) -> HeardRead
+pub fn read_slots(block: &[u8], words: u32, edges: &mut [u32]) -> Result<HeardSize, Refusal>
     requires { (0 < words) × (words ≤ MAX_WORDS) × (EDGES_LENGTH ≤ length edges.old) }
     ensures { Promised (as_slots words block.now) edges.old edges.new result }
 {
     let mut slots = [0u32; SLOTS_LENGTH];
-    match utterance_reader::read_block(block, words, &mut slots) {
-        UtteranceRead::Refused(n) => HeardRead::Refused(n),
-        UtteranceRead::Utterance(size) => {
-            let n = size.count;
-            let found = utterance_edges::edges_of(&slots, n, edges);
-            HeardRead::Heard(HeardSize {
-                graph: false,
-                last: n,
-                edges: found,
-            })
-        }
-    }
+    let last = utterance_reader::read_block(block, words, &mut slots)?.count;
+    let found = utterance_edges::edges_of(&slots, last, edges);
+    Ok(HeardSize {
+        graph: false,
+        last,
+        edges: found,
+    })
 }
 
 // What was heard, of a block of either kind under a grammar of `words` words, with its edges in the array.
-pub fn read_heard(block: &[u8], words: u32, edges: &mut [u32]) -> HeardRead
+pub fn read_heard(block: &[u8], words: u32, edges: &mut [u32]) -> Result<HeardSize, Refusal>
     requires { (0 < words) × (words ≤ MAX_WORDS) × (EDGES_LENGTH ≤ length edges.old) }
     ensures { Promised (heard_block words block.now) edges.old edges.new result }
 {

@@ -2,58 +2,54 @@
 use mathlib.Core.Path.{◌≡◌, refl, ap}
 use mathlib.Core.List.{List}
 use Prim.Native.Nat.{ℕ}
+use Rattle.std.specs.Prelude.{Result, Ok, Err}
 use Rattle.packing.specs.Meaning.{Grammar, Heard, heard_edges}
 use Rattle.packing.specs.Parse.{Verdict, accepted, refused, ◌then◌}
 use Rattle.packing.specs.Grammar.{grammar_block}
 use Rattle.packing.specs.Flat.{Begins, Overlaid, rule_numbers, edge_numbers}
 use Rattle.packing.proofs.Flat.{overlaid_begins}
-use Rattle.grammar_reader.specs.Answer.{sizes, answer_of, Bounded, InBounds, RulesOver}
+use Rattle.packing.proofs.Told.{accepted_told, refused_told}
+use Rattle.packing.specs.Read.{as_verdict}
+use Rattle.packing.specs.declared.refusal.Refusal.{Refusal}
+use Rattle.grammar_reader.specs.Answer.{sizes, sizes_told, Bounded, RulesOver}
 use Rattle.grammar_reader.specs.declared.Sizes.{Sizes}
-use Rattle.grammar_reader.specs.declared.GrammarRead as G
-use Rattle.grammar_reader.proofs.BlockInversion as grammars
-use Rattle.heard_reader.specs.Answer.{heard_size, Sized, Promised}
-use Rattle.heard_reader.specs.declared.HeardRead as H
-use Rattle.heard_reader.proofs.BlockInversion as hearings
-use Rattle.inputs.specs.Inputs.{both, meant_by, inputs_read, joined_of, ReadOf, InputsTold}
+use Rattle.heard_reader.specs.Answer.{heard_size, Promised}
+use Rattle.heard_reader.specs.declared.HeardSize.{HeardSize}
+use Rattle.inputs.specs.Inputs.{both, inputs_of, meant_by, ReadOf, InputsTold}
 use Rattle.inputs.specs.declared.Inputs.{Inputs}
-use Rattle.inputs.specs.declared.InputsRead as I
 
 -- the ways out
-module _ (block : ℕ → List ℕ → Verdict Heard) (grammar heard : List ℕ) {s : G.GrammarRead} (told : s ≡ answer_of (grammar_block grammar)) where
-  pub grammar_refused : {n : ℕ} → s ≡ G.TheVariants.Refused n → meant_by block grammar heard ≡ refused n
+module _ (block : ℕ → List ℕ → Verdict Heard) (grammar heard : List ℕ) where
+  pub grammar_refused : {n : ℕ} → refused n ≡ sizes_told (grammar_block grammar) → meant_by block grammar heard ≡ refused n
   unfolding meant_by
-  grammar_refused e = rw (grammars.refused_told (grammar_block grammar) told e)
+  grammar_refused e = rw (refused_told (grammar_block grammar) sizes e)
 
-  pub grammar_read : (rules₀ edges₀ rules edges : List ℕ) → RulesOver (grammar_block grammar) rules₀ rules → InBounds s → {z : Sizes} → s
-      ≡ G.TheVariants.Grammar z
-      → {h : H.HeardRead} → Promised (block z.words heard) edges₀ edges h → {r : I.InputsRead} → r ≡ joined_of z h
-      → InputsTold block grammar heard rules₀ edges₀ r rules edges
-  unfolding meant_by
-  grammar_read rules₀ edges₀ rules edges laid bounds {z} e {h} t is =
-      let (g, v, ez) = grammars.accepted_told (grammar_block grammar) told e in
-      rw is (go g v ez (rw v at laid) (rw e at bounds) h t)
-    where
-      go : (g : Grammar) → grammar_block grammar ≡ accepted g → z ≡ sizes g → Overlaid (rule_numbers g) rules₀ rules → Bounded z
-          → (h : H.HeardRead) → Promised (block z.words heard) edges₀ edges h → InputsTold block grammar heard rules₀ edges₀ (joined_of z h) rules edges
-      go g v ez laid bounded (H.TheVariants.Refused n) t =
-          let e = hearings.refused_told (block z.words heard) t.answer refl in
-          rw (v, ← ap (λ (y : Sizes). y.words) ez, e)
-      go g v ez laid bounded (H.TheVariants.Heard y) t =
-          let (h, e, ey) = hearings.accepted_told (block z.words heard) t.answer refl in
-          held h e ey t.sized (rw e at t.laid)
-        where
-          held : (h : Heard) → block z.words heard ≡ accepted h → y ≡ heard_size h → Sized (H.TheVariants.Heard y)
-              → Overlaid (edge_numbers (heard_edges h)) edges₀ edges
-              → ReadOf block grammar heard rules₀ edges₀ (record { sizes = z; heard = y }) rules edges
-          held h e ey sized laid' = record {
-            meant = both g h;
-            grammar_is = v;
-            heard_is = rw ez at e;
-            sizes = rw (ez, ey);
-            rules_laid = laid;
-            edges_laid = laid';
-            bounds = record { sizes = bounded; some_place = sized.0; places = sized.1; edges = sized.3 };
-          }
+  module _ {z : Sizes} (told : accepted z ≡ sizes_told (grammar_block grammar)) where
+    pub heard_refused : {n : ℕ} → refused n ≡ (block z.words heard then λ h. accepted (heard_size h)) → meant_by block grammar heard ≡ refused n
+    unfolding meant_by
+    heard_refused e =
+        let (g, v, ez) = accepted_told (grammar_block grammar) sizes told in
+        rw (v, ← ap (λ (y : Sizes). y.words) ez, refused_told (block z.words heard) heard_size e)
+
+    pub both_read : (rules₀ edges₀ rules edges : List ℕ) → RulesOver (grammar_block grammar) rules₀ rules → Bounded z → {y : HeardSize}
+        → Promised (block z.words heard) edges₀ edges (Ok y) → ReadOf block grammar heard rules₀ edges₀ (record { sizes = z; heard = y }) rules edges
+    both_read rules₀ edges₀ rules edges laid bounded {y} t =
+        let (g, v, ez) = accepted_told (grammar_block grammar) sizes told in
+        let (h, e, ey) = accepted_told (block z.words heard) heard_size t.answer in
+        go g v ez h e ey (rw v at laid) (rw e at t.laid)
+      where
+        go : (g : Grammar) → grammar_block grammar ≡ accepted g → z ≡ sizes g → (h : Heard) → block z.words heard ≡ accepted h → y ≡ heard_size h
+            → Overlaid (rule_numbers g) rules₀ rules → Overlaid (edge_numbers (heard_edges h)) edges₀ edges
+            → ReadOf block grammar heard rules₀ edges₀ (record { sizes = z; heard = y }) rules edges
+        go g v ez h e ey laid laid' = record {
+          meant = both g h;
+          grammar_is = v;
+          heard_is = rw ez at e;
+          sizes = rw (ez, ey);
+          rules_laid = laid;
+          edges_laid = laid';
+          bounds = record { sizes = bounded; some_place = t.sized.0; places = t.sized.1; edges = t.sized.3 };
+        }
 
 -- of inputs that were read
 module _ {block : ℕ → List ℕ → Verdict Heard} {grammar heard rules₀ edges₀ : List ℕ} {z : Inputs} {rules edges : List ℕ}
@@ -70,10 +66,10 @@ module _ {block : ℕ → List ℕ → Verdict Heard} {grammar heard rules₀ ed
   both_accepted = rw (k.grammar_is, k.heard_is)
 
 -- the answer is that of the verdict
-pub answer_is : (block : ℕ → List ℕ → Verdict Heard) (grammar heard rules₀ edges₀ : List ℕ) (r : I.InputsRead) (rules edges : List ℕ)
-    → InputsTold block grammar heard rules₀ edges₀ r rules edges → r ≡ inputs_read (meant_by block grammar heard)
-answer_is block grammar heard rules₀ edges₀ (I.TheVariants.Read z) rules edges k = rw (both_accepted k, k.sizes)
-answer_is block grammar heard rules₀ edges₀ (I.TheVariants.Refused n) rules edges e = rw e
+pub answer_is : (block : ℕ → List ℕ → Verdict Heard) (grammar heard rules₀ edges₀ : List ℕ) (r : Result Inputs Refusal) (rules edges : List ℕ)
+    → InputsTold block grammar heard rules₀ edges₀ r rules edges → as_verdict r ≡ (meant_by block grammar heard then λ m. accepted (inputs_of m))
+answer_is block grammar heard rules₀ edges₀ (Ok z) rules edges k = rw (both_accepted k, k.sizes)
+answer_is block grammar heard rules₀ edges₀ (Err r) rules edges e = rw e
 
 -- what follows an accepted grammar and what was heard follows the verdict on both
 pub meant_first : {C : Type 0} (block : ℕ → List ℕ → Verdict Heard) (grammar heard : List ℕ) (k : Grammar → Heard → Verdict C)

@@ -1,17 +1,15 @@
 -- A grammar block, and then a block of what was heard, of either kind or of slots alone: document 01, "Where each check stands", the rows
 -- grammar block and utterance block. Nobody need believe this page: the services' own conditions say it of each. Assumes nothing.
-use Rattle.std.specs.Prelude.{◌≡◌, List, ◌++◌, ℕ, ◌≤◌, length, drop, replicate}
+use Rattle.std.specs.Prelude.{◌≡◌, List, ◌++◌, ℕ, ◌≤◌, Result, Ok, Err, length, drop, replicate}
 use Rattle.packing.specs.Meaning.{Grammar, Heard, heard_edges}
 use Rattle.packing.specs.Parse.{Verdict, accepted, refused, ◌then◌}
 use Rattle.packing.specs.Grammar.{grammar_block}
 use Rattle.packing.specs.Flat.{Overlaid, rule_numbers, edge_numbers}
 use Rattle.grammar_reader.specs.Answer.{sizes, Bounded}
-use Rattle.grammar_reader.specs.declared.Sizes.{Sizes}
 use Rattle.heard_reader.specs.Answer.{heard_size}
-use Rattle.heard_reader.specs.declared.HeardRead as H
 use Rattle.inputs.specs.declared.Inputs.{Inputs}
-use Rattle.inputs.specs.declared.InputsRead.{InputsRead}
-use Rattle.inputs.specs.declared.InputsRead.TheVariants.{Read, Refused}
+use Rattle.packing.specs.Refusal.{number}
+use Rattle.packing.specs.declared.refusal.Refusal.{Refusal}
 
 -- a grammar and what was heard, both accepted
 pub record Meant : Type 0 where
@@ -28,14 +26,6 @@ meant_by block grammar heard = grammar_block grammar then λ g. block g.words he
 -- what is answered: the sizes of both
 abbrev pub inputs_of : Meant → Inputs
 inputs_of m = record { sizes = sizes m.grammar; heard = heard_size m.heard }
-
-abbrev pub joined_of : Sizes → H.HeardRead → InputsRead
-joined_of z (H.TheVariants.Heard y) = Read (record { sizes = z; heard = y })
-joined_of z (H.TheVariants.Refused n) = Refused n
-
-abbrev pub inputs_read : Verdict Meant → InputsRead
-inputs_read (accepted m) = Read (inputs_of m)
-inputs_read (refused n) = Refused n
 
 -- all sizes are in their ranges
 pub record Bounds (z : Inputs) : Type 0 where
@@ -63,6 +53,6 @@ abbrev pub edges_array : Heard → List ℕ
 edges_array h = edge_numbers (heard_edges h) ++ drop (length (edge_numbers (heard_edges h))) (replicate 672 0)
 
 -- what the readers promise
-abbrev pub InputsTold : (ℕ → List ℕ → Verdict Heard) → (grammar heard rules₀ edges₀ : List ℕ) → InputsRead → (rules edges : List ℕ) → Type 0
-InputsTold block grammar heard rules₀ edges₀ (Read z) rules edges = ReadOf block grammar heard rules₀ edges₀ z rules edges
-InputsTold block grammar heard rules₀ edges₀ (Refused n) rules edges = meant_by block grammar heard ≡ refused n
+abbrev pub InputsTold : (ℕ → List ℕ → Verdict Heard) → (grammar heard rules₀ edges₀ : List ℕ) → Result Inputs Refusal → (rules edges : List ℕ) → Type 0
+InputsTold block grammar heard rules₀ edges₀ (Ok z) rules edges = ReadOf block grammar heard rules₀ edges₀ z rules edges
+InputsTold block grammar heard rules₀ edges₀ (Err r) rules edges = meant_by block grammar heard ≡ refused (number r)

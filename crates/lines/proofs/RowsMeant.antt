@@ -10,19 +10,22 @@ use Rattle.packing.specs.Meaning.{Grammar, Marked, grammar_of, Heard, slots, gra
 use Rattle.packing.specs.Parse.{Verdict, accepted, refused}
 use Rattle.packing.specs.Grammar.{marked_block, grammar_block}
 use Rattle.packing.specs.Heard.{heard_block}
-use Rattle.packing.proofs.Parse.{granted, accepted_is}
+use Rattle.packing.proofs.Parse.{granted, accepted_is, refused≢accepted}
 use Rattle.packing.proofs.Whole.{marked_block_out}
 use Rattle.packing.proofs.Heard.{heard_block_out}
 use Rattle.packing.specs.Reading.{reading_length}
 use Rattle.packing.specs.GraphReading.{graph_reading_length}
 use Rattle.derivation.specs.Heard.{output_length}
 use Rattle.listing.specs.Conditions.{library, asked_listing}
-use Rattle.inputs.specs.Answer.{listed_of, Lists}
+use Rattle.inputs.specs.Answer.{Lists}
 use Rattle.listing.specs.Listing.{readings_of, list, output_after}
 use Rattle.chart.specs.WorkTable.{work_after}
 use Rattle.listing.specs.Demand3.{Demand3}
-use Rattle.inputs.specs.declared.Listed.{Listed}
-use Rattle.inputs.specs.declared.Listed.TheVariants.{Found, Refused}
+use Rattle.std.specs.Prelude.{Result, Ok, Err}
+use Rattle.packing.specs.Read.{as_verdict, counted}
+use Rattle.packing.specs.Refusal.{number}
+use Rattle.packing.specs.declared.refusal.Refusal.{Refusal}
+use Rattle.packing.proofs.Told.{accepted_told, refused_told}
 use Rattle.listing.proofs.Accepted.{Asks, asked_out, list_asked}
 use Rattle.traced_readings.proofs.Sizes.{size_is}
 use Rattle.reading_rows.specs.Rows.{Rows, room_for, Told}
@@ -32,17 +35,10 @@ use Rattle.reading_rows.specs.declared.Shape.{Shape}
 
 module _ (grammar heard : List ℕ) (work out : ℕ) where
   -- a refusal of the listing is that of what is asked
-  pub asked_refused : {n : ℕ} → listed_of (list library grammar heard 8 work out) ≡ Refused n → asked_listing library grammar heard 8 work out ≡ refused n
-  asked_refused {n} is = go (asked_listing library grammar heard 8 work out) refl
-    where
-      go : (v : Verdict (Grammar × Heard)) → asked_listing library grammar heard 8 work out ≡ v → v ≡ refused n
-      go (accepted b) e =
-          let due : list library grammar heard 8 work out ≡ accepted (readings_of 8 b) = list_asked library grammar heard 8 work out ∙ rw e in
-          let z : ◌≡◌ {A = ℕ} 0 1 = cc in absurd (omega arith)
-      go (refused k) e =
-          let due : list library grammar heard 8 work out ≡ refused k = list_asked library grammar heard 8 work out ∙ rw e in
-          let same : k ≡ n = cc in
-          rw same
+  pub asked_refused : {n : ℕ} → refused n ≡ counted (list library grammar heard 8 work out) → asked_listing library grammar heard 8 work out ≡ refused n
+  asked_refused e =
+      let due = refused_told (list library grammar heard 8 work out) length e in
+      refused_told (asked_listing library grammar heard 8 work out) (readings_of 8) (sym due ∙ list_asked library grammar heard 8 work out)
 
 -- a reading has bytes, so where there is no output something is refused
 some_bytes : (g : Grammar) (h : Heard) → 1 ≤ output_length g h
@@ -68,20 +64,25 @@ pub room_is : (out shown : List ℕ) → 400 ≤ length shown → room_for (leng
 room_is out shown h = rw (le-ltb (length shown) 400 h)
 
 -- what is promised of the answer and of what was lent, where so many bytes of output count
-abbrev pub Promised : (grammar heard work out shown : List ℕ) (room : ℕ) → Listed → (work' out' shown' : List ℕ) → Type 0
+abbrev pub Promised : (grammar heard work out shown : List ℕ) (room : ℕ) → Result ℕ Refusal → (work' out' shown' : List ℕ) → Type 0
 Promised grammar heard work out shown room r work' out' shown' =
     Lists work_after output_after (list library grammar heard 8 (length work) room) work out r work' out'
-    × Told grammar heard (length work) room r shown shown'
+    × Told grammar heard (length work) room (as_verdict r) shown shown'
 
-pub no_room : (grammar heard work out shown : List ℕ) {r : Listed} {work' : List ℕ} → length shown < 400
-    → r ≡ listed_of (list library grammar heard 8 (length work) 0) → work' ≡ work_after (list library grammar heard 8 (length work) 0) work
+pub no_room : (grammar heard work out shown : List ℕ) (r : Result ℕ Refusal) {work' : List ℕ} → length shown < 400
+    → as_verdict r ≡ counted (list library grammar heard 8 (length work) 0) → work' ≡ work_after (list library grammar heard 8 (length work) 0) work
     → Promised grammar heard work out shown (room_for (length out) (length shown)) r work' out shown
-no_room grammar heard work out shown {r} short answer after =
-    let none = no_output grammar heard (length work) in
-    let is : r ≡ Refused none.number = rw none.due at answer in
-    let told = subst (λ (x : Listed). Told grammar heard (length work) 0 x shown shown) (sym is) (none.asked, refl) in
-    let after' = rw none.due at after in
-    rw (lt-ltb (length shown) 400 short, none.due) (record { answer = is; work_is = after'; output_is = refl }, told)
+no_room grammar heard work out shown r {work'} short answer after =
+    rw (lt-ltb (length shown) 400 short) (told r (rw none.due at answer) (rw none.due at after))
+  where
+    none : NoOutput grammar heard (length work)
+    none = no_output grammar heard (length work)
+
+    told : (r : Result ℕ Refusal) → as_verdict r ≡ refused none.number → work' ≡ work → Promised grammar heard work out shown 0 r work' out shown
+    told (Ok m) e k = absurd (refused≢accepted (sym e))
+    told (Err r) e k =
+        let same : none.number ≡ number r = cc in
+        (rw none.due (record { answer = e; work_is = k; output_is = refl }), (none.asked ∙ ap refused same, refl))
 
 -- where readings were found, what both blocks mean
 record Meant (grammar heard : List ℕ) (work out : ℕ) : Type 0 where
@@ -92,29 +93,25 @@ record Meant (grammar heard : List ℕ) (work out : ℕ) : Type 0 where
   pub asks : Asks (grammar_of m) h 8 work out
   pub asked : asked_listing library grammar heard 8 work out ≡ accepted (grammar_of m, h)
 
-module _ (grammar heard rules marks : List ℕ) (s : Shape) (shape : ShapeOf grammar heard rules marks s) (work out : List ℕ) (found : ℕ) (r : Listed)
-    (answered : r ≡ listed_of (list library grammar heard 8 (length work) (length out))) (is : r ≡ Found found) where
+module _ (grammar heard rules marks : List ℕ) (s : Shape) (shape : ShapeOf grammar heard rules marks s) (work out : List ℕ) (found : ℕ)
+    (answered : accepted found ≡ counted (list library grammar heard 8 (length work) (length out))) where
   meant : Meant grammar heard (length work) (length out)
   unfolding grammar_block
-  meant = go (list library grammar heard 8 (length work) (length out)) refl (sym answered ∙ is)
-    where
-      go : (v : Verdict (List (List ℕ))) → list library grammar heard 8 (length work) (length out) ≡ v → listed_of v ≡ Found found
-          → Meant grammar heard (length work) (length out)
-      go (refused n) e a = let z : ◌≡◌ {A = ℕ} 0 1 = cc in absurd (omega arith)
-      go (accepted ls) e a =
-          granted (asked_listing library grammar heard 8 (length work) (length out)) _
-          (sym (list_asked library grammar heard 8 (length work) (length out)) ∙ e) λ (g, h) both _.
-          let (p, q, asks) = asked_out library grammar heard 8 (length work) (length out) both in
-          granted (marked_block grammar) _ p λ m p' same.
-          let is : grammar_of m ≡ g = accepted_is same in
-          record {
-            m = m;
-            h = h;
-            grammar_means = p';
-            heard_means = rw (← is) at q;
-            asks = rw is asks;
-            asked = rw is both;
-          }
+  meant =
+      let (ls, e, _) = accepted_told (list library grammar heard 8 (length work) (length out)) length answered in
+      granted (asked_listing library grammar heard 8 (length work) (length out)) _
+      (sym (list_asked library grammar heard 8 (length work) (length out)) ∙ e) λ (g, h) both _.
+      let (p, q, asks) = asked_out library grammar heard 8 (length work) (length out) both in
+      granted (marked_block grammar) _ p λ m p' same.
+      let is : grammar_of m ≡ g = accepted_is same in
+      record {
+        m = m;
+        h = h;
+        grammar_means = p';
+        heard_means = rw (← is) at q;
+        asks = rw is asks;
+        asked = rw is both;
+      }
 
   sized : size_of s ≡ output_length (grammar_of meant.m) meant.h
   sized =
@@ -128,7 +125,7 @@ module _ (grammar heard rules marks : List ℕ) (s : Shape) (shape : ShapeOf gra
   pub room_for_lem : found ≤ 8 → found * size_of s ≤ length out
   room_for_lem few = omega (arith, mul-le-mul_right (size_of s) few, ap (λ (n : ℕ). 8 * n) sized, meant.asks.room)
 
-  module _ (work' out' shown shown' : List ℕ) (demand : Demand3 grammar heard 8 work out (λ m. r ≡ Found m) work' out')
+  module _ (work' out' shown shown' : List ℕ) (demand : Demand3 grammar heard 8 work out (λ m. accepted found ≡ accepted m) work' out')
       (said : RowsSay rules marks s out' found shown shown') where
     pub rows_told : Rows grammar heard found shown shown'
     unfolding grammar_block
@@ -139,7 +136,7 @@ module _ (grammar heard rules marks : List ℕ) (s : Shape) (shape : ShapeOf gra
         let q = meant.heard_means in
         let asks = meant.asks in
         let list = demand (grammar_of m) (rw p) h q asks.positive asks.few asks.table asks.room in
-        let same : list.m ≡ found = cc in
+        let same : list.m ≡ found = sym (accepted_is list.accepts) in
         let (shaped, stand, marked) = shape.right m h p q in
         let okm = (marked_block_out grammar m p).0 in
         let okh = (heard_block_out m.words heard h q).0 in

@@ -2,6 +2,7 @@
 #![tactic(auto)]
 
 ghost use Rattle.std.specs.Prelude.{◌≡◌, ◌≤◌, length};
+ghost use Rattle.packing.specs.Read.{as_verdict};
 ghost use Rattle.listing.specs.Conditions.{library};
 ghost use Rattle.inputs.specs.Answer.{Lists};
 ghost use Rattle.chart.specs.WorkTable.{work_after};
@@ -9,10 +10,8 @@ ghost use Rattle.listing.specs.Listing.{list, output_after};
 ghost use Rattle.reading_rows.specs.Rows.{room_for, Told};
 ghost use Rattle.lines.specs.Shapes.{ShapeOf};
 
-use grammar_reader::MarkedRead;
-use heard_reader::HeardRead;
-use inputs::Listed;
 use packing::format::{EDGES_LENGTH, MAX_RULES, RULES_LENGTH};
+use packing::refusal::Refusal;
 use reading_rows::{SHOWN_NUMBERS, Shape, write_rows};
 
 // The number of readings that document 01 has the lister ask for.
@@ -28,13 +27,11 @@ fn shape_of(grammar: &[u8], utterance: &[u8], rules: &mut [u32], marks: &mut [u3
         last: 1,
         rules: 1,
     };
-    let read = grammar_reader::read_marked_block(grammar, rules, marks);
-    let MarkedRead::Grammar(sizes, _) = read else {
+    let Ok((sizes, _)) = grammar_reader::read_marked_block(grammar, rules, marks) else {
         return none;
     };
     let mut edges = [0u32; EDGES_LENGTH];
-    let heard = heard_reader::read_heard(utterance, sizes.words, &mut edges);
-    let HeardRead::Heard(found) = heard else {
+    let Ok(found) = heard_reader::read_heard(utterance, sizes.words, &mut edges) else {
         return none;
     };
     Shape {
@@ -51,24 +48,20 @@ fn lines_within(
     work: &mut [u32],
     out: &mut [u8],
     shown: &mut [u32],
-) -> Listed
+) -> Result<usize, Refusal>
     requires { 400 ≤ length shown.old }
     ensures lists { Lists work_after output_after
         (list library grammar.now heard.now 8 (length work.old) (length out.old))
         work.old out.old result work.new out.new }
-    ensures told { Told grammar.now heard.now (length work.old) (length out.old) result shown.old
+    ensures told { Told grammar.now heard.now (length work.old) (length out.old) (as_verdict result) shown.old
         shown.new }
 {
     let mut rules = [0u32; RULES_LENGTH];
     let mut marks = [0u32; MAX_RULES];
     let s = shape_of(grammar, heard, &mut rules, &mut marks);
-    match listing::listing(grammar, heard, WANTED, work, out) {
-        Listed::Refused(n) => Listed::Refused(n),
-        Listed::Found(m) => {
-            write_rows(&out[..], m, &rules, &marks, s, shown);
-            Listed::Found(m)
-        }
-    }
+    let m = listing::listing(grammar, heard, WANTED, work, out)?;
+    write_rows(&out[..], m, &rules, &marks, s, shown);
+    Ok(m)
 }
 
 // The listing of eight readings, with a row for each that is found in `shown`. Where that is shorter than eight rows, no output suffices.
@@ -78,13 +71,13 @@ pub fn lines(
     work: &mut [u32],
     out: &mut [u8],
     shown: &mut [u32],
-) -> Listed
+) -> Result<usize, Refusal>
     ensures lists { Lists work_after output_after
         (list library grammar.now heard.now 8 (length work.old)
         (room_for (length out.old) (length shown.old)))
         work.old out.old result work.new out.new }
     ensures told { Told grammar.now heard.now (length work.old)
-        (room_for (length out.old) (length shown.old)) result shown.old shown.new }
+        (room_for (length out.old) (length shown.old)) (as_verdict result) shown.old shown.new }
 {
     if shown.len() < SHOWN_NUMBERS {
         let mut none = [0u8; 1];

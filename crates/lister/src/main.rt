@@ -5,7 +5,6 @@
 ghost use Rattle.std.specs.Prelude.{◌≡◌, length};
 ghost use Rattle.std.specs.Io.{ReadsAtMost};
 
-use inputs::Listed;
 use printing::{print, print_end, print_further, print_rows};
 use reading_rows::SHOWN_NUMBERS;
 use std::io::Read;
@@ -54,15 +53,15 @@ fn main(rt: HostRuntime) -> io::Result<()> {
         &mut out,
         &mut shown,
     ) {
-        Listed::Found(m) => {
+        Ok(m) => {
             print(&rt, b"readings")?;
             print_further(&rt, m)?;
             print_end(&rt)?;
             print_rows(&rt, &shown, m)
         }
-        Listed::Refused(n) => {
+        Err(refusal) => {
             print(&rt, b"refused")?;
-            print_further(&rt, n as usize)?;
+            print_further(&rt, refusal.number() as usize)?;
             print_end(&rt)
         }
     }

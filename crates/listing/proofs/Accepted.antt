@@ -9,6 +9,8 @@ use lib.ListN.{length, length-map, length-take}
 use borrow.Author.Tests.{le-ltb, ltb-false}
 use Rattle.packing.specs.Meaning.{Grammar, Heard, last_place}
 use Rattle.packing.specs.Parse.{Verdict, accepted, refused, ◌then◌}
+use Rattle.packing.specs.Read.{counted}
+use Rattle.packing.proofs.Told.{accepted_told}
 use Rattle.packing.specs.Grammar.{grammar_block}
 use Rattle.packing.specs.Heard.{heard_block}
 use Rattle.packing.specs.Valid.{ValidGrammar, ValidHeard}
@@ -22,11 +24,8 @@ use Rattle.derivation.proofs.Ranges.{All}
 use Rattle.derivation.proofs.HeardTheorems.{least_length, least_element, output_bytes}
 use Rattle.chart.specs.WorkTable.{table_size}
 use Rattle.listing.specs.Conditions.{conditions, asked_listing}
-use Rattle.inputs.specs.Answer.{listed_of}
 use Rattle.listing.specs.Listing.{readings_of, listed, list}
 use Rattle.listing_limits.specs.declared.Limits.{Limits}
-use Rattle.inputs.specs.declared.Listed.{Listed}
-use Rattle.inputs.specs.declared.Listed.TheVariants.{Found}
 use Rattle.listing.proofs.Joined.{Sized}
 use Rattle.inputs.proofs.Due.{then_within}
 
@@ -109,10 +108,7 @@ accepted_few l grammar heard N work out e =
     let (_, _, asks) = asked_out l grammar heard N work out p in
     (rw (← accepted_is q) (simp (length-map, length-take) (omega arith)), asks.few)
 
-pub found_few : (l : Limits) (grammar heard : List ℕ) (N work out : ℕ) {r : Listed} {m : ℕ} → r ≡ listed_of (list l grammar heard N work out)
-    → r ≡ Found m → m ≤ N
-found_few l grammar heard N work out {r} {m} p q = go (list l grammar heard N work out) refl p
-  where
-    go : (v : Verdict (List (List ℕ))) → list l grammar heard N work out ≡ v → r ≡ listed_of v → m ≤ N
-    go (accepted ls) e a = let same : length ls ≡ m = cc in rw (← same) (accepted_few l grammar heard N work out e).0
-    go (refused n) e a = let z : ◌≡◌ {A = ℕ} 0 1 = cc in absurd (omega arith)
+pub found_few : (l : Limits) (grammar heard : List ℕ) (N work out : ℕ) {m : ℕ} → accepted m ≡ counted (list l grammar heard N work out) → m ≤ N
+found_few l grammar heard N work out e =
+    let (ls, is, same) = accepted_told (list l grammar heard N work out) length e in
+    rw same (accepted_few l grammar heard N work out is).0

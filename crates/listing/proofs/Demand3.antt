@@ -10,6 +10,9 @@ use lib.ListN.{length, drop, length-map}
 use lib.Seq.{drop_at}
 use Rattle.packing.specs.Meaning.{Grammar, Heard, heard_edges}
 use Rattle.packing.specs.Parse.{Verdict, accepted}
+use Rattle.std.specs.Prelude.{Result}
+use Rattle.packing.specs.Read.{as_verdict}
+use Rattle.packing.specs.declared.refusal.Refusal.{Refusal}
 use Rattle.packing.specs.Grammar.{grammar_block}
 use Rattle.packing.specs.Heard.{heard_block}
 use Rattle.packing.specs.Valid.{ValidGrammar, ValidHeard}
@@ -30,8 +33,6 @@ use Rattle.listing.specs.Listing.{joined, list, output_after}
 use Rattle.traced_readings.specs.Ranked.{Ranked}
 use Rattle.listing.specs.Demand3.{kth_bytes, Either, RankedList, Demand3}
 use Rattle.listing_limits.specs.declared.Limits.{Limits}
-use Rattle.inputs.specs.declared.Listed.{Listed}
-use Rattle.inputs.specs.declared.Listed.TheVariants.{Found}
 use Rattle.listing.proofs.Joined.{length_joined, joined_at}
 use Rattle.listing.proofs.Accepted.{blocks, count_blocks, sized_blocks, listing_accepts}
 
@@ -112,11 +113,11 @@ module _ (l : Limits) (grammar heard : List ℕ) (N : ℕ) (work out : List ℕ)
       ranked_list AnswerIs work' out' works writes p q met (answers (blocks g h N) met)
 
   -- the promises of `listing_within`: its answer and both slices, and so demand 3
-  pub promised : (r : Listed) (work' out' : List ℕ) → Lists work_after output_after due work out r work' out'
+  pub promised : (r : Result ℕ Refusal) (work' out' : List ℕ) → Lists work_after output_after due work out r work' out'
       → Lists work_after output_after due work out r work' out'
-      × (Within l grammar heard N → Demand3 grammar heard N work out (λ m. r ≡ Found m) work' out')
+      × (Within l grammar heard N → Demand3 grammar heard N work out (λ m. as_verdict r ≡ accepted m) work' out')
   promised r work' out' lists =
-      (lists, demand_3 (λ m. r ≡ Found m) (λ ls e. rw e at lists.answer) work' out' lists.work_is lists.output_is)
+      (lists, demand_3 (λ m. as_verdict r ≡ accepted m) (λ ls e. rw e at lists.answer) work' out' lists.work_is lists.output_is)
 
 -- of the library it holds outright: every accepted block is within its slots
 pub in_library : (grammar heard : List ℕ) (N : ℕ) (work out : List ℕ) (AnswerIs : ℕ → Type 0) (work' out' : List ℕ)

@@ -1,5 +1,5 @@
 -- The sizes that the listing computes with are small, and what is beyond the limits or short decides between a refusal and acceptance.
-use mathlib.Core.Path.{◌≡◌, refl}
+use mathlib.Core.Path.{◌≡◌, refl, sym}
 use mathlib.Core.Bool.{Bool, true, false}
 use Prim.Native.Nat.{ℕ, ◌+◌, ◌-◌, ◌*◌, ◌/◌, ◌≤◌}
 use native.Mathlib.Nat.{mul-le-mul}
@@ -8,14 +8,15 @@ use lib.Dec.{ltb}
 use borrow.Author.Tests.{ltb-false}
 use Rattle.bits.specs.Bits.{pick}
 use Rattle.packing.specs.Meaning.{Grammar, Heard, slots, last_place}
-use Rattle.packing.specs.Parse.{refused}
+use Rattle.packing.specs.Parse.{accepted, refused, ◌then◌}
+use Rattle.packing.proofs.Parse.{refused≢accepted}
 use Rattle.derivation.specs.Heard.{output_length}
 use Rattle.chart.specs.WorkTable.{table_size}
 use Rattle.listing.specs.Conditions.{conditions}
 use Rattle.listing.specs.Listing.{listed}
 use Rattle.traced_readings.specs.Model.{size_of}
 use Rattle.traced_readings.proofs.Sizes.{longest_is, size_within}
-use Rattle.listing_limits.specs.Shortage.{first_refusal, shortage}
+use Rattle.listing_limits.specs.Shortage.{first_refusal, verdict_on, shortage}
 use Rattle.listing_limits.specs.declared.Asked.{Asked}
 use Rattle.listing_limits.specs.declared.Limits.{Limits}
 
@@ -47,7 +48,7 @@ pub record Met (asked : Asked) (S n L work out : ℕ) : Type 0 where
   pub table : table_size S n asked.wanted ≤ work
   pub room : asked.wanted * L ≤ out
 
-pub all_met : (asked : Asked) (S n L work out : ℕ) → shortage asked S n L work out ≡ 0 → Met asked S n L work out
+pub all_met : (asked : Asked) (S n L work out : ℕ) → accepted tt ≡ verdict_on (shortage asked S n L work out) → Met asked S n L work out
 unfolding shortage
 all_met asked S n L work out =
     go (ltb asked.limits.slots n) (ltb asked.wanted 1) (ltb 256 asked.wanted) (ltb asked.limits.readings asked.wanted)
@@ -56,13 +57,14 @@ all_met asked S n L work out =
   where
     go : (a b c d e f : Bool) → ltb asked.limits.slots n ≡ a → ltb asked.wanted 1 ≡ b → ltb 256 asked.wanted ≡ c
         → ltb asked.limits.readings asked.wanted ≡ d
-        → ltb work (table_size S n asked.wanted) ≡ e → ltb out (asked.wanted * L) ≡ f → first_refusal a b c d e f ≡ 0 → Met asked S n L work out
-    go true b c d e f p q r s t u none = absurd (omega arith)
-    go false true c d e f p q r s t u none = absurd (omega arith)
-    go false false true d e f p q r s t u none = absurd (omega arith)
-    go false false false true e f p q r s t u none = absurd (omega arith)
-    go false false false false true f p q r s t u none = absurd (omega arith)
-    go false false false false false true p q r s t u none = absurd (omega arith)
+        → ltb work (table_size S n asked.wanted) ≡ e → ltb out (asked.wanted * L) ≡ f → accepted tt ≡ verdict_on (first_refusal a b c d e f)
+        → Met asked S n L work out
+    go true b c d e f p q r s t u none = absurd (refused≢accepted (sym none))
+    go false true c d e f p q r s t u none = absurd (refused≢accepted (sym none))
+    go false false true d e f p q r s t u none = absurd (refused≢accepted (sym none))
+    go false false false true e f p q r s t u none = absurd (refused≢accepted (sym none))
+    go false false false false true f p q r s t u none = absurd (refused≢accepted (sym none))
+    go false false false false false true p q r s t u none = absurd (refused≢accepted (sym none))
     go false false false false false false p q r s t u none = record {
       slots = ltb-false _ _ p;
       positive = ltb-false _ _ q;
@@ -72,25 +74,28 @@ all_met asked S n L work out =
       room = ltb-false _ _ u;
     }
 
--- where something is
-picks : {A : Type 0} (k : ℕ → A) (a b c d e f : Bool) (rest : A) → (first_refusal a b c d e f ≡ 0 → ⊥)
-    → pick a (k 57) (pick b (k 21) (pick c (k 21) (pick d (k 58) (pick e (k 22) (pick f (k 23) rest))))) ≡ k (first_refusal a b c d e f)
-picks k true b c d e f rest h = refl
-picks k false true c d e f rest h = refl
-picks k false false true d e f rest h = refl
-picks k false false false true e f rest h = refl
-picks k false false false false true f rest h = refl
-picks k false false false false false true rest h = refl
-picks k false false false false false false rest h = absurd (h refl)
+-- what the code refuses is what the conditions do
+picks : {A : Type 0} (x : A) (a b c d e f : Bool)
+    → pick a (refused 57) (pick b (refused 21) (pick c (refused 21) (pick d (refused 58) (pick e (refused 22) (pick f (refused 23) (accepted x))))))
+    ≡ (verdict_on (first_refusal a b c d e f) then λ u. accepted x)
+picks x true b c d e f = refl
+picks x false true c d e f = refl
+picks x false false true d e f = refl
+picks x false false false true e f = refl
+picks x false false false false true f = refl
+picks x false false false false false true = refl
+picks x false false false false false false = refl
 
-conditions_short : (asked : Asked) (g : Grammar) (h : Heard) (work out : ℕ) → (shortage asked g.symbols (last_place h) (output_length g h) work out ≡ 0 → ⊥)
-    → conditions asked.limits g h asked.wanted work out ≡ refused (shortage asked g.symbols (last_place h) (output_length g h) work out)
+conditions_told : (asked : Asked) (g : Grammar) (h : Heard) (work out : ℕ)
+    → conditions asked.limits g h asked.wanted work out
+    ≡ (verdict_on (shortage asked g.symbols (last_place h) (output_length g h) work out) then λ u. accepted (g, h))
 unfolding shortage conditions
-conditions_short asked g h work out =
-    picks refused (ltb asked.limits.slots (last_place h)) (ltb asked.wanted 1) (ltb 256 asked.wanted) (ltb asked.limits.readings asked.wanted)
-    (ltb work (table_size g.symbols (last_place h) asked.wanted)) (ltb out (asked.wanted * output_length g h)) _
+conditions_told asked g h work out =
+    picks (g, h) (ltb asked.limits.slots (last_place h)) (ltb asked.wanted 1) (ltb 256 asked.wanted) (ltb asked.limits.readings asked.wanted)
+    (ltb work (table_size g.symbols (last_place h) asked.wanted)) (ltb out (asked.wanted * output_length g h))
 
-pub short : (asked : Asked) (g : Grammar) (h : Heard) (work out : ℕ) → (shortage asked g.symbols (last_place h) (output_length g h) work out ≡ 0 → ⊥)
-    → listed asked.limits g h asked.wanted work out ≡ refused (shortage asked g.symbols (last_place h) (output_length g h) work out)
+pub short : (asked : Asked) (g : Grammar) (h : Heard) (work out : ℕ) {n : ℕ}
+    → refused n ≡ verdict_on (shortage asked g.symbols (last_place h) (output_length g h) work out)
+    → listed asked.limits g h asked.wanted work out ≡ refused n
 unfolding listed
-short asked g h work out none = rw (conditions_short asked g h work out none)
+short asked g h work out e = rw (conditions_told asked g h work out, ← e)

@@ -2,10 +2,13 @@
 -- is what is due.
 use mathlib.Core.Path.{◌≡◌, refl, sym, ap, ◌∙◌}
 use mathlib.Core.List.{List, ◌++◌}
+use Rattle.std.specs.Prelude.{Ok, Err}
 use Prim.Native.Nat.{ℕ, ◌*◌, ◌≤◌}
 use lib.ListN.{length, drop, replicate}
 use Rattle.packing.specs.Meaning.{Grammar, Heard, last_place, heard_edges}
-use Rattle.packing.specs.Parse.{refused}
+use Rattle.packing.specs.Parse.{accepted, refused}
+use Rattle.packing.specs.Refusal.{number}
+use Rattle.packing.specs.declared.refusal.Refusal.{Refusal}
 use Rattle.packing.specs.Flat.{Begins, rule_numbers, edge_numbers}
 use Rattle.packing.specs.Valid.{ValidGrammar, ValidHeard}
 use Rattle.packing.specs.Heard.{heard_block}
@@ -22,12 +25,11 @@ use Rattle.chart_theory.proofs.Accepted.{Holds, layout, chart_holds}
 use Rattle.chart.specs.WorkTable.{table_size, work_after}
 use Rattle.listing.specs.Listing.{joined, listed, list, output_after}
 use Rattle.traced_readings.specs.Model.{form_of}
-use Rattle.listing_limits.specs.Shortage.{shortage}
+use Rattle.listing_limits.specs.Shortage.{verdict_on, shortage}
 use Rattle.listing.specs.Model.{Filled, ReadListed}
 use Rattle.listing_limits.specs.declared.Asked.{Asked}
 use Rattle.traced_readings.specs.declared.Form.{Form}
 use Rattle.listing_limits.specs.declared.Limits.{Limits}
-use Rattle.inputs.specs.declared.Listed.TheVariants.{Found, Refused}
 use Rattle.traced_readings.proofs.Sizes.{size_is}
 use Rattle.listing.proofs.Sizes.{Met, all_met, short}
 use Rattle.listing.proofs.Joined.{length_joined}
@@ -43,7 +45,7 @@ module _ (g : Grammar) (h : Heard) (okg : ValidGrammar g) (okh : ValidHeard g.wo
 
   readings_due : (rules array : List ℕ) (m : ℕ) (work' out' : List ℕ) → Begins (rule_numbers g) rules → Begins (edge_numbers (heard_edges h)) array
       → Filled rules (form g h) array (length (heard_edges h)) (layout g h N) work out m work' out'
-      → Lists work_after output_after (listed asked.limits g h N (length work) (length out)) work out (Found m) work' out'
+      → Lists work_after output_after (listed asked.limits g h N (length work) (length out)) work out (Ok m) work' out'
   unfolding table_size lay_out
   readings_due rules array m work' out' begun begun' filled =
       let ls = blocks g h N in
@@ -56,7 +58,7 @@ module _ (g : Grammar) (h : Heard) (okg : ValidGrammar g) (okh : ValidHeard g.wo
       filled.blocks ∙ rw (blocks_written g N rules filled.table h some m holds, size, size_is g h) in
       rw (listing_accepts g h N asked.limits (length work) (length out) met.slots met.readings met.positive met.few met.table met.room)
       (record {
-        answer = ap Found (sym count);
+        answer = ap accepted (sym count);
         work_is = filled.emptied ∙ holds.clears ∙ ap (λ (k : ℕ). replicate k 0) filled.size;
         output_is = written;
       })
@@ -64,20 +66,20 @@ module _ (g : Grammar) (h : Heard) (okg : ValidGrammar g) (okh : ValidHeard g.wo
 -- the ways out of inputs that were read
 module _ (rules edges : List ℕ) (z : Inputs) (asked : Asked) (work out : List ℕ) {f : Form}
     (formed : f ≡ form_of z.heard.graph z.heard.last z.sizes.rules) where
-  pub read_refused : {x : ℕ} → x ≡ shortage asked z.sizes.symbols z.heard.last f.size (length work) (length out) → (x ≡ 0 → ⊥)
-      → ReadListed rules edges z asked work out (Refused x) work out
+  pub read_refused : {r : Refusal} → refused (number r) ≡ verdict_on (shortage asked z.sizes.symbols z.heard.last f.size (length work) (length out))
+      → ReadListed rules edges z asked work out (Err r) work out
   unfolding list
-  read_refused e short-of grammar heard rules₀ edges₀ k =
+  read_refused e grammar heard rules₀ edges₀ k =
       let g = k.meant.grammar in
       let h = k.meant.heard in
       let is = rw (formed, k.sizes, size_is g h) at e in
-      rw (k.grammar_is, k.heard_is, short asked g h (length work) (length out) (λ none. short-of (is ∙ none)), is)
+      rw (k.grammar_is, k.heard_is, short asked g h (length work) (length out) is)
       (record { answer = refl; work_is = refl; output_is = refl })
 
   pub read_found : {m : ℕ} {d : Layout} {work' out' : List ℕ}
-      → shortage asked z.sizes.symbols z.heard.last f.size (length work) (length out) ≡ 0 → d
-      ≡ lay_out z.sizes.symbols z.heard.last asked.wanted
-      → Filled rules f edges z.heard.edges d work out m work' out' → ReadListed rules edges z asked work out (Found m) work' out'
+      → accepted tt ≡ verdict_on (shortage asked z.sizes.symbols z.heard.last f.size (length work) (length out))
+      → d ≡ lay_out z.sizes.symbols z.heard.last asked.wanted
+      → Filled rules f edges z.heard.edges d work out m work' out' → ReadListed rules edges z asked work out (Ok m) work' out'
   unfolding list
   read_found {m} {work' = work'} {out'} none e-layout filled grammar heard rules₀ edges₀ k =
       let g = k.meant.grammar in
@@ -90,8 +92,8 @@ module _ (rules edges : List ℕ) (z : Inputs) (asked : Asked) (work out : List 
       (readings_due g h okg okh some asked work out met rules edges m work' out' (rules_begin k) (edges_begin k) (rw (e-layout, formed, k.sizes) at filled))
 
 -- and of blocks that were not
-pub not_read : (l : Limits) (grammar heard : List ℕ) (N : ℕ) (work out : List ℕ) {n : ℕ} → meant_by heard_block grammar heard ≡ refused n
-    → Lists work_after output_after (list l grammar heard N (length work) (length out)) work out (Refused n) work out
+pub not_read : (l : Limits) (grammar heard : List ℕ) (N : ℕ) (work out : List ℕ) {r : Refusal} → meant_by heard_block grammar heard ≡ refused (number r)
+    → Lists work_after output_after (list l grammar heard N (length work) (length out)) work out (Err r) work out
 unfolding list
 not_read l grammar heard N work out e =
     rw (meant_first heard_block grammar heard (λ g h. listed l g h N (length work) (length out)), e)

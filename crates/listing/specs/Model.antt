@@ -1,5 +1,5 @@
 -- The parts of the listing's code as functions. Nobody need believe this page: the theorems of proofs/ join it to specs/Listing.
-use Rattle.std.specs.Prelude.{◌≡◌, Bool, List, [], ◌++◌, ℕ, ◌*◌, length, drop}
+use Rattle.std.specs.Prelude.{◌≡◌, Bool, List, [], ◌++◌, ℕ, ◌*◌, Result, length, drop}
 use Rattle.packing.specs.Heard.{heard_block}
 use Rattle.packing.specs.Loop.{iter}
 use Rattle.inputs.specs.Inputs.{ReadOf}
@@ -11,7 +11,7 @@ use Rattle.chart.specs.WorkTable.{work_after}
 use Rattle.inputs.specs.Answer.{Lists}
 use Rattle.listing.specs.Listing.{list, output_after}
 use Rattle.listing_limits.specs.declared.Asked.{Asked}
-use Rattle.inputs.specs.declared.Listed.{Listed}
+use Rattle.packing.specs.declared.refusal.Refusal.{Refusal}
 use Rattle.traced_readings.specs.Model.{block_at}
 use Rattle.traced_readings.specs.declared.Form.{Form}
 
@@ -31,7 +31,7 @@ pub record Filled (rules : List ℕ) (f : Form) (edges : List ℕ) (E : ℕ) (d 
   pub emptied : work' ≡ clear table d
 
 -- what is promised of inputs that were read
-abbrev pub ReadListed : (rules edges : List ℕ) → Inputs → Asked → (work out : List ℕ) → Listed → (work' out' : List ℕ) → Type 0
+abbrev pub ReadListed : (rules edges : List ℕ) → Inputs → Asked → (work out : List ℕ) → Result ℕ Refusal → (work' out' : List ℕ) → Type 0
 ReadListed rules edges z a work out r work' out' =
     (grammar heard rules₀ edges₀ : List ℕ) → ReadOf heard_block grammar heard rules₀ edges₀ z rules edges
     → Lists work_after output_after (list a.limits grammar heard a.wanted (length work) (length out)) work out r work' out'

@@ -2,6 +2,8 @@
 #![tactic(auto)]
 
 ghost use Rattle.std.specs.Prelude.{◌≡◌, ◌++◌, ◌+◌, ◌*◌, ◌≤◌, ◌<◌, length, drop};
+ghost use Rattle.packing.specs.Parse.{accepted};
+ghost use Rattle.packing.specs.Read.{as_verdict};
 ghost use Rattle.inputs.specs.Inputs.{Bounds};
 ghost use Rattle.chart_table.specs.Table.{Sized};
 ghost use Rattle.listing.specs.Conditions.{library, Within};
@@ -13,9 +15,10 @@ ghost use Rattle.traced_readings.specs.Model.{FormFor, block_at};
 ghost use Rattle.listing.specs.Model.{blocks_at, Filled, ReadListed};
 
 use chart_table::Layout;
-use inputs::{Inputs, InputsRead, Listed, read_inputs};
+use inputs::{Inputs, read_inputs};
 use listing_limits::{Asked, LIBRARY, Limits, shortage};
 use packing::format::{EDGES_LENGTH, MAX_SLOTS, RULES_LENGTH, TRACE_LENGTH};
+use packing::refusal::Refusal;
 use traced_readings::{Form, TracedRank, form_of, write_traced};
 
 // The reading of a rank of the root, traced back.
@@ -68,7 +71,7 @@ fn list_read(
     asked: Asked,
     work: &mut [u32],
     out: &mut [u8],
-) -> Listed
+) -> Result<usize, Refusal>
     requires { Bounds inputs }
     ensures { ReadListed rules.now edges.now inputs asked work.old out.old result work.new
         out.new }
@@ -76,12 +79,9 @@ fn list_read(
     let symbols = inputs.sizes.symbols as usize;
     let last = inputs.heard.last;
     let form = form_of(inputs.heard.graph, last, inputs.sizes.rules as usize);
-    let refusal = shortage(asked, symbols, last, form.size, work.len(), out.len());
-    if refusal != 0 {
-        return Listed::Refused(refusal);
-    }
+    shortage(asked, symbols, last, form.size, work.len(), out.len())?;
     let d = chart::lay_out(symbols, last, asked.wanted as usize);
-    Listed::Found(fill(rules, form, edges, inputs.heard.edges, d, work, out))
+    Ok(fill(rules, form, edges, inputs.heard.edges, d, work, out))
 }
 
 // The N least readings of what was heard, slots or a graph, under the grammar, one after another into `out`, with a work table that
@@ -93,22 +93,18 @@ pub fn listing_within(
     wanted: u32,
     work: &mut [u32],
     out: &mut [u8],
-) -> Listed
+) -> Result<usize, Refusal>
     ensures lists { Lists work_after output_after
         (list limits grammar.now heard.now wanted (length work.old) (length out.old))
         work.old out.old result work.new out.new }
     ensures demand3 { Within limits grammar.now heard.now wanted
-        → Demand3 grammar.now heard.now wanted work.old out.old (λ m. result ≡ Listed.Found m) work.new
-        out.new }
+        → Demand3 grammar.now heard.now wanted work.old out.old (λ m. as_verdict result ≡ accepted m)
+        work.new out.new }
 {
     let mut rules = [0u32; RULES_LENGTH];
     let mut edges = [0u32; EDGES_LENGTH];
-    match read_inputs(grammar, heard, &mut rules, &mut edges) {
-        InputsRead::Refused(n) => Listed::Refused(n),
-        InputsRead::Read(inputs) => {
-            list_read(&rules, &edges, inputs, Asked { limits, wanted }, work, out)
-        }
-    }
+    let inputs = read_inputs(grammar, heard, &mut rules, &mut edges)?;
+    list_read(&rules, &edges, inputs, Asked { limits, wanted }, work, out)
 }
 
 // The library's listing: every accepted block is within its limits.
@@ -118,12 +114,12 @@ pub fn listing(
     wanted: u32,
     work: &mut [u32],
     out: &mut [u8],
-) -> Listed
+) -> Result<usize, Refusal>
     ensures lists { Lists work_after output_after
         (list library grammar.now heard.now wanted (length work.old) (length out.old))
         work.old out.old result work.new out.new }
-    ensures demand3 { Demand3 grammar.now heard.now wanted work.old out.old (λ m. result ≡ Listed.Found m)
-        work.new out.new }
+    ensures demand3 { Demand3 grammar.now heard.now wanted work.old out.old
+        (λ m. as_verdict result ≡ accepted m) work.new out.new }
 {
     listing_within(LIBRARY, grammar, heard, wanted, work, out)
 }

@@ -1,6 +1,7 @@
 -- What the code refuses of a listing by its numbers. Nobody need believe this page: listing's theorems join it to its page Conditions.
-use Rattle.std.specs.Prelude.{Bool, ℕ, ◌*◌, ltb}
+use Rattle.std.specs.Prelude.{Bool, ℕ, ◌*◌, eqb, ltb}
 use Rattle.bits.specs.Bits.{pick}
+use Rattle.packing.specs.Parse.{Verdict, accepted, refused}
 use Rattle.chart.specs.WorkTable.{table_size}
 use Rattle.listing_limits.specs.declared.Asked.{Asked}
 
@@ -15,3 +16,7 @@ unfoldable pub shortage : Asked → (S n L work out : ℕ) → ℕ
 shortage a S n L work out =
     first_refusal (ltb a.limits.slots n) (ltb a.wanted 1) (ltb 256 a.wanted) (ltb a.limits.readings a.wanted)
     (ltb work (table_size S n a.wanted)) (ltb out (a.wanted * L))
+
+-- the verdict that says so
+abbrev pub verdict_on : ℕ → Verdict Unit
+verdict_on n = pick (eqb n 0) (accepted tt) (refused n)

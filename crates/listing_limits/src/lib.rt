@@ -2,12 +2,13 @@
 #![tactic(auto)]
 
 ghost use Rattle.std.specs.Prelude.{◌≡◌, ◌≤◌};
+ghost use Rattle.packing.specs.Read.{as_verdict};
 ghost use Rattle.packing.specs.GraphReading.{graph_reading_length};
-ghost use Rattle.listing_limits.specs.Shortage.{shortage};
+ghost use Rattle.listing_limits.specs.Shortage.{verdict_on, shortage};
 
 use chart_table::MOST_RANKS;
 use packing::format::{MAX_RULES, MAX_SLOTS, MAX_SYMBOLS};
-use packing::refused;
+use packing::refusal::Refusal;
 
 // The most slots that a service takes, of a graph one less than its places, and the most readings that it lists.
 #[derive(Clone, Copy)]
@@ -37,30 +38,38 @@ pub struct Asked {
     pub wanted: u32,
 }
 
-// The refusal of what was heard, up to the last place n, and of what is asked for or lent; 0 where all is within the limits and nothing short.
-pub fn shortage(asked: Asked, symbols: usize, n: usize, size: usize, work: usize, out: usize) -> u32
+// The refusal of what was heard, up to the last place n, and of what is asked for or lent, unless all is within the limits and nothing short.
+#[tactic(auto, unfolding(crate::specs::Shortage::shortage))]
+pub fn shortage(
+    asked: Asked,
+    symbols: usize,
+    n: usize,
+    size: usize,
+    work: usize,
+    out: usize,
+) -> Result<(), Refusal>
     requires { (symbols ≤ MAX_SYMBOLS) × (n ≤ MAX_SLOTS) × (size ≤ graph_reading_length MAX_SLOTS MAX_RULES) }
-    ensures { result ≡ shortage asked symbols n size work out }
+    ensures { as_verdict result ≡ verdict_on (shortage asked symbols n size work out) }
 {
     let wanted = asked.wanted;
     if asked.limits.slots < n {
-        return refused::PANEL_SLOTS;
+        return Err(Refusal::PanelSlots);
     }
     if wanted < 1 {
-        return refused::LISTING_WANTED;
+        return Err(Refusal::ListingWanted);
     }
     if MAX_WANTED < wanted {
-        return refused::LISTING_WANTED;
+        return Err(Refusal::ListingWanted);
     }
     if asked.limits.readings < wanted {
-        return refused::PANEL_WANTED;
+        return Err(Refusal::PanelWanted);
     }
     let ranks = wanted as usize;
     if work < chart::table_numbers(chart::lay_out(symbols, n, ranks)) {
-        return refused::LISTING_WORK;
+        return Err(Refusal::ListingWork);
     }
     if out < ranks * size {
-        return refused::LISTING_OUTPUT;
+        return Err(Refusal::ListingOutput);
     }
-    0
+    Ok(())
 }

@@ -4,8 +4,6 @@
 ghost use Rattle.std.specs.Prelude.{true, ◌≡◌, ℕ, ◌<◌, ◌≤◌, length};
 ghost use Rattle.masks.specs.Digits.{digit, Disjoint, Put};
 
-use arrays::{narrow_at, store};
-
 // Whether two masks have nothing in common.
 pub fn disjoint(x: u32, y: u32) -> bool
     ensures { result ≡ true → Disjoint x y }
@@ -29,13 +27,14 @@ pub fn lacks(x: u32, head: usize) -> bool
     x & (1 << head) == 0
 }
 
-// The first head from one on that a mask has, of n heads, or n where it has none.
+// The first head from one on that a mask has, of n heads, or n where it has none: n ends the loops over heads, so that an Option would
+// only add a test.
 fn head_from(heads: u32, from: usize, n: usize) -> usize
     requires { (from < n) × (n ≤ 32) }
     ensures { (from ≤ result) × (result ≤ n) × ((b : ℕ) → from ≤ b → b < result → digit heads b ≡ 0) }
 {
     let next = from + u32::trailing_zeros(heads >> from) as usize;
-    if next < n { next } else { n }
+    next.min(n)
 }
 
 // The same. Where most heads are in the mask, the test of the very next one is foreseen right, and nothing waits for the mask.
@@ -57,6 +56,5 @@ pub fn put(masks: &mut [u32], at: usize, x: u32)
     requires { at < length masks.old }
     ensures { Put masks.old at x masks.new }
 {
-    let joined = narrow_at(&masks[..], at) | x;
-    store(masks, at, joined);
+    masks[at] |= x;
 }

@@ -24,9 +24,8 @@ use Rattle.phrases.proofs.Least.{Property, LeastOrNone, first, least_unique}
 use Rattle.phrases.proofs.Theorems.{yields_below, first_phrase_least, next_phrase_least}
 use Rattle.phrases.proofs.Cell.{Of}
 use Rattle.phrases.proofs.Numbers.{Kept, kept_same, kept_nothing, kept_first, below_bytes}
-use Rattle.specimen.specs.Specimen.{answered_of, output_of}
-use Rattle.specimen.specs.declared.Answered.TheVariants.{Written, Nothing}
-use Rattle.next_phrase.specs.Table.{cell_over, cell_at, fill_table, asked_of}
+use Rattle.specimen.specs.Specimen.{string_length, output_of}
+use Rattle.next_phrase.specs.Table.{cell_over, no_cell, cell_at, fill_table, asked_of}
 use Rattle.next_phrase.specs.declared.Cell.{Cell}
 use Rattle.next_phrase.proofs.Cells.{Holds}
 use Rattle.next_phrase.proofs.Right.{start_holds}
@@ -39,11 +38,11 @@ record Finds (n : ℕ) (o : Option (List ℕ)) (c : ℕ) : Type 1 where
   kept : Kept 6 P c
 
 module _ (n : ℕ) (h : n ≤ 6) {o : Option (List ℕ)} {c : ℕ} (f : Finds n o c) (out : List ℕ) where
-  nothing_told : no_number ≤ c → (Nothing ≡ answered_of (accepted o)) × (out ≡ output_of (accepted o) out)
+  nothing_told : no_number ≤ c → (0 ≡ string_length o) × (out ≡ output_of (accepted o) out)
   nothing_told b = rw (least_unique f.least (kept_nothing n h f.sized f.kept b)) (refl, refl)
 
   written_told : c < no_number → {exit : List ℕ} → ((t : List ℕ) → length t ≡ n → Bytes t → c ≡ placed 6 t → exit ≡ t ++ drop n out)
-      → (Written ≡ answered_of (accepted o)) × (exit ≡ output_of (accepted o) out)
+      → (n ≡ string_length o) × (exit ≡ output_of (accepted o) out)
   written_told b w =
       let (t, m, e) = kept_first n h f.sized f.kept b in
       let (z, y) = f.sized t m.0 in
@@ -79,24 +78,24 @@ module _ (g : Grammar) (v : ValidGrammar g) where
 
 -- from what the code knows: the table, the start's cell, and what is asked for of it
 module _ (n call : ℕ) (pos : 0 < n) (most : n ≤ 6) (out : List ℕ) (room : n ≤ length out) (z : Sizes) (rules : List ℕ)
-    {full : List ℕ} (p : full ≡ fill_table rules z.rules (take n out) (replicate 3456 no_number))
+    {full : List Cell} (p : full ≡ fill_table rules z.rules (take n out) (replicate 1152 no_cell))
     {at : ℕ} (q : at ≡ cell_over (symbol_of 0) 0 n) {cell : Cell} (r : cell ≡ cell_at full at) {found : ℕ} (f : found ≡ asked_of call cell)
     (g : Grammar) (e : z ≡ sizes g) (v : ValidGrammar g) (begins : Begins (rule_numbers g) rules) where
   finds : Finds n (pick (eqb call 0) (next_phrase g n (take n out)) (first_phrase g n)) found
   finds =
       let size = length-take-le n out room in
-      let k = start_holds g v rules begins (take n out) (omega (arith, size)) (replicate 3456 no_number) (length-replicate 3456 no_number)
-      (λ y l. get_or-replicate 3456 y no_number 0 l) (omega (arith, size)) in
-      let w : fill_table rules z.rules (take n out) (replicate 3456 no_number) ≡ fill_table rules (length g.rules) (take n out) (replicate 3456 no_number) =
-      ap (λ (y : Sizes). fill_table rules y.rules (take n out) (replicate 3456 no_number)) e in
+      let k = start_holds g v rules begins (take n out) (omega (arith, size)) (replicate 1152 no_cell) (length-replicate 1152 no_cell)
+      (λ y l. get_or-replicate 1152 y no_cell _ l) (omega (arith, size)) in
+      let w : fill_table rules z.rules (take n out) (replicate 1152 no_cell) ≡ fill_table rules (length g.rules) (take n out) (replicate 1152 no_cell) =
+      ap (λ (y : Sizes). fill_table rules y.rules (take n out) (replicate 1152 no_cell)) e in
       rw (f, r, q, p, w) (rw size at (finds_asked g v call (take n out) _ k))
 
   pub nothing_said : no_number ≤ found
-      → (Nothing ≡ answered_of (accepted (pick (eqb call 0) (next_phrase g n (take n out)) (first_phrase g n))))
+      → (0 ≡ string_length (pick (eqb call 0) (next_phrase g n (take n out)) (first_phrase g n)))
       × (out ≡ output_of (accepted (pick (eqb call 0) (next_phrase g n (take n out)) (first_phrase g n))) out)
   nothing_said l = nothing_told n most finds out l
 
   pub string_said : found < no_number → {exit : List ℕ} → ((t : List ℕ) → length t ≡ n → Bytes t → found ≡ placed 6 t → exit ≡ t ++ drop n out)
-      → (Written ≡ answered_of (accepted (pick (eqb call 0) (next_phrase g n (take n out)) (first_phrase g n))))
+      → (n ≡ string_length (pick (eqb call 0) (next_phrase g n (take n out)) (first_phrase g n)))
       × (exit ≡ output_of (accepted (pick (eqb call 0) (next_phrase g n (take n out)) (first_phrase g n))) out)
   string_said l w = written_told n most finds out l w

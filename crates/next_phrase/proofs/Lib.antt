@@ -4,3 +4,4 @@ pub mod Cells
 pub mod Parts
 pub mod Right
 pub mod Found
+pub mod Least

@@ -22,12 +22,12 @@ use Rattle.packing.specs.declared.Rule.TheVariants.{Pair, Word}
 use Rattle.packing.proofs.Loop.{iter_keeps}
 use Rattle.derivation.proofs.Ranges.{Within, all_at, valid_sizes, valid_within}
 use Rattle.phrases.specs.Recursion.{head_of}
-use Rattle.phrases.specs.Numbers.{scale, no_number}
+use Rattle.phrases.specs.Numbers.{scale}
 use Rattle.phrases.proofs.Least.{Property, Joined}
 use Rattle.phrases.proofs.Cell.{Of, Adds, Made, By, by_yields, yields_by, adds_made}
 use Rattle.specimen.specs.Table.{fitted_at}
 use Rattle.specimen.proofs.Said.{stored}
-use Rattle.next_phrase.specs.Table.{cell_over, cell_at, head_cell, with_word, with_split, with_rule, add_rule, fill_part, part_step, fill_table}
+use Rattle.next_phrase.specs.Table.{cell_over, no_cell, cell_at, head_cell, with_word, with_split, with_rule, add_rule, fill_part, part_step, fill_table}
 use Rattle.next_phrase.specs.declared.Cell.{Cell}
 use Rattle.next_phrase.proofs.Cells.{Holds, holds_same, holds_at, holds_none, adds_word, adds_joined}
 use Rattle.next_phrase.proofs.Parts.{head_is, put_length, put_same, put_other}
@@ -77,13 +77,13 @@ module _ (g : Grammar) (v : ValidGrammar g) (rules : List ℕ) (begins : Begins 
   Right k p a c = p % 6 + (p / 6 + 1) ≤ length s → Over (p % 6) (p / 6 + 1) (First k (symbol_of a) (p / 6 + 1)) c
 
   -- all rules for parts before p, the first x for p, and none for those behind it
-  abbrev Inv : ℕ → ℕ → List ℕ → Type 0
+  abbrev Inv : ℕ → ℕ → List Cell → Type 0
   Inv p x t =
-      (length t ≡ 3456)
+      (length t ≡ 1152)
       × ((q a : ℕ) → q < 36 → a < 32 → (q < p → Right (length g.rules) q a (cell_at t (q * 32 + a))) × (q ≡ p → Right x q a (cell_at t (q * 32 + a)))
       × (p < q → Right 0 q a (cell_at t (q * 32 + a))))
 
-  shorter : (p x : ℕ) (t : List ℕ) → Inv p x t → (A : Sym) (i j : ℕ) → A.0 < 32 → 0 < j → i + j ≤ length s → (j - 1) * 6 + i < p
+  shorter : (p x : ℕ) (t : List Cell) → Inv p x t → (A : Sym) (i j : ℕ) → A.0 < 32 → 0 < j → i + j ≤ length s → (j - 1) * 6 + i < p
       → Over i j (Of g A j) (cell_at t (cell_over A i j))
   shorter p x t inv A i j a h k l =
       let e₁ : ((j - 1) * 6 + i) % 6 ≡ i = omega arith in
@@ -92,7 +92,7 @@ module _ (g : Grammar) (v : ValidGrammar g) (rules : List ℕ) (begins : Begins 
       over_same i j (First (length g.rules) A j) (Of g A j) _ (first_all A j) (all_first A j) ((rw (e₁, e₂) at r) k)
 
   -- one rule more
-  module _ (p i m : ℕ) (ei : p % 6 ≡ i) (em : p / 6 + 1 ≡ m) (fits : i + m ≤ length s) (x : ℕ) (t : List ℕ) (inv : Inv p x t) (h : x < length g.rules) where
+  module _ (p i m : ℕ) (ei : p % 6 ≡ i) (em : p / 6 + 1 ≡ m) (fits : i + m ≤ length s) (x : ℕ) (t : List Cell) (inv : Inv p x t) (h : x < length g.rules) where
     splits : (B C : Sym) (j : ℕ) → B.0 < g.symbols → C.0 < g.symbols → 0 < j → j < m
         → Adds (Over i m) (Joined (Of g B j) (Of g C (m - j))) (with_split t i m B C j)
     unfolding with_split
@@ -140,7 +140,7 @@ module _ (g : Grammar) (v : ValidGrammar g) (rules : List ℕ) (begins : Begins 
     unfolding add_rule
     other d n = put_other t (head_cell rules x i m) (with_rule t s i m (cell_at t (head_cell rules x i m)) (fitted_at rules x)) inv.0 small d n
 
-    size : length (add_rule rules s i m t x) ≡ 3456
+    size : length (add_rule rules s i m t x) ≡ 1152
     unfolding add_rule
     size = put_length t (head_cell rules x i m) (with_rule t s i m (cell_at t (head_cell rules x i m)) (fitted_at rules x)) inv.0 small
 
@@ -181,7 +181,7 @@ module _ (g : Grammar) (v : ValidGrammar g) (rules : List ℕ) (begins : Begins 
             rw (e, ei, em) (λ f. rw n (here a (ℕ_discrete a (get_or rules (5 * x + 1) 0 % 32)) (rw n at (k f))))
 
   -- the next part, and one that is left out
-  next_part : (p : ℕ) (t : List ℕ) → Inv p (length g.rules) t → Inv (suc p) 0 t
+  next_part : (p : ℕ) (t : List Cell) → Inv p (length g.rules) t → Inv (suc p) 0 t
   next_part p t inv = (
     inv.0,
     λ q a l b. (
@@ -198,7 +198,7 @@ module _ (g : Grammar) (v : ValidGrammar g) (rules : List ℕ) (begins : Begins 
           go (yes e) = inr e
           go (no e) = inl (omega arith)
 
-  left_out : (p : ℕ) (t : List ℕ) → length s < p % 6 + (p / 6 + 1) → Inv p 0 t → Inv (suc p) 0 t
+  left_out : (p : ℕ) (t : List Cell) → length s < p % 6 + (p / 6 + 1) → Inv p 0 t → Inv (suc p) 0 t
   left_out p t h inv =
       next_part p t (
         inv.0,
@@ -210,7 +210,7 @@ module _ (g : Grammar) (v : ValidGrammar g) (rules : List ℕ) (begins : Begins 
         ),
       )
 
-  part_kept : (p : ℕ) (t : List ℕ) → Inv p 0 t → Inv (suc p) 0 (part_step rules (length g.rules) s t p)
+  part_kept : (p : ℕ) (t : List Cell) → Inv p 0 t → Inv (suc p) 0 (part_step rules (length g.rules) s t p)
   unfolding part_step fill_part
   part_kept p t inv = go (ltb (length s) (p % 6 + (p / 6 + 1))) refl
     where
@@ -221,16 +221,16 @@ module _ (g : Grammar) (v : ValidGrammar g) (rules : List ℕ) (begins : Begins 
           (iter_keeps (Inv p) (add_rule rules s (p % 6) (p / 6 + 1)) t (length g.rules) inv
           (λ x u l k. step p (p % 6) (p / 6 + 1) refl refl (ltb-false (length s) (p % 6 + (p / 6 + 1)) e) x u k l))
 
-  -- a table of which each number stands for none
-  module _ (t : List ℕ) (room : length t ≡ 3456) (fresh : (y : ℕ) → y < 3456 → get_or t y 0 ≡ no_number) where
+  -- a table of which each cell stands for none
+  module _ (t : List Cell) (room : length t ≡ 1152) (fresh : (y : ℕ) → y < 1152 → cell_at t y ≡ no_cell) where
     empty : Inv 0 0 t
     empty = (room, λ q a l b. ((λ z. absurd (omega arith)), (λ e. nothing_yet q a l b), (λ z. nothing_yet q a l b)))
       where
         nothing_yet : (q a : ℕ) → q < 36 → a < 32 → Right 0 q a (cell_at t (q * 32 + a))
         nothing_yet q a l b f =
             holds_none (6 - q % 6) (take (q / 6 + 1) (drop (q % 6) s)) (First 0 (symbol_of a) (q / 6 + 1)) _ (λ u z. absurd (let k = z.1 in omega arith))
-            (rw (fresh (3 * (q * 32 + a)) (omega arith)) (omega arith)) (rw (fresh (3 * (q * 32 + a) + 1) (omega arith)) (omega arith))
-            (rw (fresh (3 * (q * 32 + a) + 2) (omega arith)) (omega arith))
+            (rw (fresh (q * 32 + a) (omega arith)) (omega arith)) (rw (fresh (q * 32 + a) (omega arith)) (omega arith))
+            (rw (fresh (q * 32 + a) (omega arith)) (omega arith))
 
     pub start_holds : 0 < length s → Holds 6 s (Of g (symbol_of 0) (length s))
         (cell_at (fill_table rules (length g.rules) s t) (cell_over (symbol_of 0) 0 (length s)))

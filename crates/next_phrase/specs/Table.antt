@@ -1,4 +1,4 @@
--- The next phrase's code as functions on lists of numbers: a table with three numbers for each symbol and part of a string s, filled part by
+-- The next phrase's code as functions on lists: a table with a cell for each symbol and part of a string s, filled part by
 -- part, shorter ones first, and rule by rule. Nobody need believe this page: proofs/ has that what is found so is what NextPhrase says.
 -- Assumes nothing.
 use Rattle.std.specs.Prelude.{List, ℕ, ◌+◌, ◌-◌, ◌*◌, ◌/◌, ◌%◌, eqb, ltb, length, get_or, set}
@@ -16,11 +16,15 @@ use Rattle.next_phrase.specs.declared.Cell.{Cell}
 abbrev pub cell_over : Sym → ℕ → ℕ → ℕ
 cell_over A i m = ((m - 1) * 6 + i) * 32 + A.0
 
-abbrev pub cell_at : List ℕ → ℕ → Cell
-cell_at t number = record { same = get_or t (3 * number) 0; above = get_or t (3 * number + 1) 0; least = get_or t (3 * number + 2) 0 }
+abbrev pub cell_at : List Cell → ℕ → Cell
+cell_at t number = get_or t number (record { same = 0; above = 0; least = 0 })
 
-abbrev pub put_cell : List ℕ → ℕ → Cell → List ℕ
-put_cell t number x = set (set (set t (3 * number) x.same) (3 * number + 1) x.above) (3 * number + 2) x.least
+-- a cell with no strings
+abbrev pub no_cell : Cell
+no_cell = record { same = no_number; above = no_number; least = no_number }
+
+abbrev pub put_cell : List Cell → ℕ → Cell → List Cell
+put_cell t number x = set t number x
 
 -- two joined, none if one is none
 abbrev pub sum : ℕ → ℕ → ℕ
@@ -43,31 +47,31 @@ with_word value y x best =
     (record { same = best.same; above = best.above; least = lesser value best.least }))
 
 -- what a rule makes of a part's strings: with a left part of length j, with a word; and of the cell of its head
-unfoldable pub with_split : List ℕ → ℕ → ℕ → Sym → Sym → ℕ → Cell → Cell
+unfoldable pub with_split : List Cell → ℕ → ℕ → Sym → Sym → ℕ → Cell → Cell
 unfolding with_joined
 with_split t i m b c j best = with_joined (cell_at t (cell_over b i j)) (cell_at t (cell_over c (i + j) (m - j))) best
 
-unfoldable pub with_rule : List ℕ → List ℕ → ℕ → ℕ → Cell → Rule → Cell
+unfoldable pub with_rule : List Cell → List ℕ → ℕ → ℕ → Cell → Rule → Cell
 unfolding with_split with_word made scale
 with_rule t s i m best rule = made (with_split t i m) (λ x. with_word (x * scale (5 - i)) (get_or s i 0) x) m best rule
 
 abbrev pub head_cell : List ℕ → ℕ → ℕ → ℕ → ℕ
 head_cell rules r i m = cell_over (symbol_of (get_or rules (5 * r + 1) 0 % 32)) i m
 
-unfoldable pub add_rule : List ℕ → List ℕ → ℕ → ℕ → List ℕ → ℕ → List ℕ
+unfoldable pub add_rule : List ℕ → List ℕ → ℕ → ℕ → List Cell → ℕ → List Cell
 unfolding with_rule
 add_rule rules s i m t r = put_cell t (head_cell rules r i m) (with_rule t s i m (cell_at t (head_cell rules r i m)) (fitted_at rules r))
 
 -- all rules over a part; all parts, those that pass the end of s left out
-unfoldable pub fill_part : List ℕ → ℕ → List ℕ → ℕ → ℕ → List ℕ → List ℕ
+unfoldable pub fill_part : List ℕ → ℕ → List ℕ → ℕ → ℕ → List Cell → List Cell
 unfolding iter add_rule
 fill_part rules count s i m t = iter (add_rule rules s i m) t count
 
-unfoldable pub part_step : List ℕ → ℕ → List ℕ → List ℕ → ℕ → List ℕ
+unfoldable pub part_step : List ℕ → ℕ → List ℕ → List Cell → ℕ → List Cell
 unfolding fill_part
 part_step rules count s t p = pick (ltb (length s) (p % 6 + (p / 6 + 1))) t (fill_part rules count s (p % 6) (p / 6 + 1) t)
 
-unfoldable pub fill_table : List ℕ → ℕ → List ℕ → List ℕ → List ℕ
+unfoldable pub fill_table : List ℕ → ℕ → List ℕ → List Cell → List Cell
 unfolding iter part_step
 fill_table rules count s t = iter (part_step rules count s) t (6 * length s)
 

@@ -13,15 +13,14 @@ ghost use Rattle.packing.specs.Loop.{iter};
 ghost use Rattle.packing.specs.Parse.{accepted};
 ghost use Rattle.packing.specs.Valid.{ValidGrammar};
 ghost use Rattle.phrases.specs.Enumeration.{first_phrase, next_phrase};
-ghost use Rattle.phrases.specs.Numbers.{scale, placed, lesser, Bytes};
+ghost use Rattle.phrases.specs.Numbers.{scale, placed, Bytes};
 ghost use Rattle.grammar_reader.specs.Answer.{Bounded, sizes as sizes_of};
-ghost use Rattle.specimen.specs.Specimen.{WritesString};
+ghost use Rattle.specimen.specs.Specimen.{string_length, output_of, WritesString};
 ghost use Rattle.specimen.specs.Table.{fitted_at};
+ghost use Rattle.next_phrase.specs.declared.TheConstants.{MAX_LENGTH};
 ghost use Rattle.next_phrase.specs.NextPhrase.{next};
 ghost use Rattle.next_phrase.specs.Table.{
   cell_over,
-  cell_at,
-  put_cell,
   sum,
   with_joined,
   with_word,
@@ -34,10 +33,10 @@ ghost use Rattle.next_phrase.specs.Table.{
 };
 
 use arrays::rule_at;
-use grammar_reader::{GrammarRead, Sizes};
+use grammar_reader::{Sizes, read_block};
 use packing::format::{MAX_RULES, MAX_SYMBOLS, NUMBERS_PER_RULE, RULE_HEAD_AT, RULES_LENGTH};
-use packing::{Rule, Sym, refused};
-use specimen::Answered;
+use packing::refusal::Refusal;
+use packing::{Rule, Sym};
 
 // The greatest length.
 const MAX_LENGTH: usize = 6;
@@ -49,13 +48,6 @@ const FIRST_PLACE: u64 = 1099511627776;
 
 const NO_STRING: u64 = 256 * FIRST_PLACE;
 
-// The table has three numbers for each part, by its length and the place where it begins, and symbol: a cell.
-const NUMBERS_PER_CELL: usize = 3;
-
-const CELLS: usize = MAX_LENGTH * MAX_LENGTH * MAX_SYMBOLS;
-
-const TABLE_LENGTH: usize = CELLS * NUMBERS_PER_CELL;
-
 // More than any symbol of the table, and more than any byte.
 const SYMBOLS: u32 = MAX_SYMBOLS as u32;
 
@@ -66,6 +58,8 @@ const BYTES: u32 = 256;
 pub struct Part {
     pub from: usize,
     pub length: usize,
+    ghost some: { 0 < length },
+    ghost within: { from + length ≤ MAX_LENGTH },
 }
 
 // Of a symbol and a part the part itself, if it is derived; the least string above it; and the least of its length.
@@ -76,6 +70,17 @@ pub struct Cell {
     pub least: u64,
 }
 
+// The table has a cell for each part, by its length and the place where it begins, and symbol.
+const CELLS: usize = MAX_LENGTH * MAX_LENGTH * MAX_SYMBOLS;
+
+type Table = [Cell; CELLS];
+
+const NO_CELL: Cell = Cell {
+    same: NO_STRING,
+    above: NO_STRING,
+    least: NO_STRING,
+};
+
 // What a word counts that `left` places follow.
 fn placed_word(x: u8, left: usize) -> u64
     requires { left < MAX_LENGTH }
@@ -84,91 +89,62 @@ fn placed_word(x: u8, left: usize) -> u64
     (x as u64) << (8 * left)
 }
 
-fn lesser(a: u64, b: u64) -> u64
-    ensures { (result ≡ lesser a b) × (result ≤ b) }
-{
-    if a < b { a } else { b }
-}
-
 // Two parts joined, and none if one is none.
+#[tactic(auto, using(crate::proofs::Least::min_is))]
 fn sum(u: u64, v: u64) -> u64
     ensures { result ≡ sum u v }
 {
-    lesser(u, NO_STRING) + lesser(v, NO_STRING)
+    u.min(NO_STRING) + v.min(NO_STRING)
 }
 
 // The cell with the strings joined of two parts' strings.
+#[tactic(auto, using(crate::proofs::Least::min_is), unfolding(crate::specs::Table::with_joined))]
 fn with_joined(b: Cell, c: Cell, best: Cell) -> Cell
     ensures { result ≡ with_joined b c best }
 {
-    let above = lesser(sum(b.same, c.above), best.above);
+    let above = sum(b.same, c.above).min(best.above);
     Cell {
-        same: lesser(sum(b.same, c.same), best.same),
-        above: lesser(sum(b.above, c.least), above),
-        least: lesser(sum(b.least, c.least), best.least),
+        same: sum(b.same, c.same).min(best.same),
+        above: sum(b.above, c.least).min(above),
+        least: sum(b.least, c.least).min(best.least),
     }
 }
 
 // The cell with a word x, which counts `value`, at a place where the string has the word y.
+#[tactic(auto, using(crate::proofs::Least::min_is), unfolding(crate::specs::Table::with_word))]
 fn with_word(value: u64, y: u8, x: u8, best: Cell) -> Cell
     ensures { result ≡ with_word value y x best }
 {
-    let least = lesser(value, best.least);
+    let least = value.min(best.least);
     if x == y {
         return Cell {
-            same: lesser(value, best.same),
-            above: best.above,
-            least: least,
+            same: value.min(best.same),
+            least,
+            ..best
         };
     }
     if y < x {
         return Cell {
-            same: best.same,
-            above: lesser(value, best.above),
-            least: least,
+            above: value.min(best.above),
+            least,
+            ..best
         };
     }
-    Cell {
-        same: best.same,
-        above: best.above,
-        least: least,
-    }
+    Cell { least, ..best }
 }
 
 // Which cell is a symbol's and a part's.
 fn cell_of(a: Sym, part: Part) -> usize
-    requires { (a.0 < SYMBOLS) × (part.from < MAX_LENGTH) × (0 < part.length) × (part.length ≤ MAX_LENGTH) }
+    requires { a.0 < SYMBOLS }
     ensures { (result ≡ cell_over a part.from part.length) × (result < CELLS) }
 {
     ((part.length - 1) * MAX_LENGTH + part.from) * MAX_SYMBOLS + arrays::wide(a.0)
 }
 
-fn cell_at(table: &[u64], number: usize) -> Cell
-    requires { (length table.now ≡ TABLE_LENGTH) × (number < CELLS) }
-    ensures { result ≡ cell_at table.now number }
-{
-    let at = NUMBERS_PER_CELL * number;
-    Cell {
-        same: table[at],
-        above: table[at + 1],
-        least: table[at + 2],
-    }
-}
-
-fn put_cell(table: &mut [u64], number: usize, x: Cell)
-    requires { (length table.old ≡ TABLE_LENGTH) × (number < CELLS) }
-    ensures { table.new ≡ put_cell table.old number x }
-{
-    let at = NUMBERS_PER_CELL * number;
-    table[at] = x.same;
-    table[at + 1] = x.above;
-    table[at + 2] = x.least;
-}
-
 // The cell with what two symbols make, the left part of length j.
-fn with_split(table: &[u64], b: Sym, c: Sym, part: Part, j: usize, best: Cell) -> Cell
-    requires { (length table.now ≡ TABLE_LENGTH) × (b.0 < SYMBOLS) × (c.0 < SYMBOLS) × (0 < j) × (j < part.length)
-        × (part.from + part.length ≤ MAX_LENGTH) }
+#[tactic(auto, unfolding(crate::specs::Table::with_split))]
+fn with_split(table: &Table, b: Sym, c: Sym, part: Part, j: usize, best: Cell) -> Cell
+    requires { (b.0 < SYMBOLS) × (c.0 < SYMBOLS) × (0 < j) × (j < part.length) }
     ensures { result ≡ with_split table.now part.from part.length b c j best }
 {
     let left = cell_of(
@@ -185,31 +161,29 @@ fn with_split(table: &[u64], b: Sym, c: Sym, part: Part, j: usize, best: Cell) -
             length: part.length - j,
         },
     );
-    with_joined(cell_at(table, left), cell_at(table, right), best)
+    with_joined(table[left], table[right], best)
 }
 
 // The same for every length of the left part: what a pair rule makes.
-fn with_pair(table: &[u64], b: Sym, c: Sym, part: Part, best: Cell) -> Cell
-    requires { (length table.now ≡ TABLE_LENGTH) × (b.0 < SYMBOLS) × (c.0 < SYMBOLS) × (0 < part.length)
-        × (part.from + part.length ≤ MAX_LENGTH) }
+fn with_pair(table: &Table, b: Sym, c: Sym, part: Part, best: Cell) -> Cell
+    requires { (b.0 < SYMBOLS) × (c.0 < SYMBOLS) }
     ensures { result ≡ iter (λ x y. with_split table.now part.from part.length b c (y + 1) x) best (part.length - 1) }
 {
     let mut found = best;
     for y in 0..part.length - 1 {
-        let next = with_split(table, b, c, part, y + 1, found);
-        found = next;
+        found = with_split(table, b, c, part, y + 1, found);
     }
     found
 }
 
 // The cell with what rule r makes of the part. The remainders change no accepted rule.
-fn with_rule(table: &[u64], rules: &[u32], r: usize, string: &[u8], part: Part, best: Cell) -> Cell
-    requires { (length table.now ≡ TABLE_LENGTH) × (r < MAX_RULES) × (0 < part.length) × (part.from + part.length ≤ length string.now)
+#[tactic(auto, unfolding(crate::specs::Table::with_rule, phrases::specs::Recursion::made))]
+fn with_rule(table: &Table, rules: &[u32], r: usize, string: &[u8], part: Part, best: Cell) -> Cell
+    requires { (r < MAX_RULES) × (part.from + part.length ≤ length string.now)
         × (length string.now ≤ MAX_LENGTH) }
     ensures { result ≡ with_rule table.now string.now part.from part.length best (fitted_at rules.now r) }
 {
-    let rule = rule_at(rules, r);
-    match rule {
+    match rule_at(rules, r) {
         Rule::Pair(_, b, c, _) => {
             with_pair(table, Sym(b.0 % SYMBOLS), Sym(c.0 % SYMBOLS), part, best)
         }
@@ -226,22 +200,21 @@ fn with_rule(table: &[u64], rules: &[u32], r: usize, string: &[u8], part: Part, 
 }
 
 // The cell of the rule's head, with what the rule makes of the part.
-fn add_rule(table: &mut [u64], rules: &[u32], r: usize, string: &[u8], part: Part)
-    requires { (length table.old ≡ TABLE_LENGTH) × (r < MAX_RULES) × (0 < part.length) × (part.from + part.length ≤ length string.now)
+#[tactic(auto, unfolding(crate::specs::Table::add_rule))]
+fn add_rule(table: &mut Table, rules: &[u32], r: usize, string: &[u8], part: Part)
+    requires { (r < MAX_RULES) × (part.from + part.length ≤ length string.now)
         × (length string.now ≤ MAX_LENGTH) }
     ensures { table.new ≡ add_rule rules.now string.now part.from part.length table.old r }
 {
     let head = arrays::narrow_at(rules, NUMBERS_PER_RULE * r + RULE_HEAD_AT);
     let c = cell_of(Sym(head % SYMBOLS), part);
-    let best = cell_at(&table[..], c);
-    let next = with_rule(&table[..], rules, r, string, part, best);
-    put_cell(table, c, next);
+    let next = with_rule(table, rules, r, string, part, table[c]);
+    table[c] = next;
 }
 
 // All symbols' cells of a part.
-fn fill_part(table: &mut [u64], rules: &[u32], count: usize, string: &[u8], part: Part)
-    requires { (length table.old ≡ TABLE_LENGTH) × (count ≤ MAX_RULES) × (0 < part.length)
-        × (part.from + part.length ≤ length string.now) × (length string.now ≤ MAX_LENGTH) }
+fn fill_part(table: &mut Table, rules: &[u32], count: usize, string: &[u8], part: Part)
+    requires { (count ≤ MAX_RULES) × (part.from + part.length ≤ length string.now) × (length string.now ≤ MAX_LENGTH) }
     ensures { table.new ≡ fill_part rules.now count string.now part.from part.length table.old }
 {
     for r in 0..count {
@@ -250,8 +223,8 @@ fn fill_part(table: &mut [u64], rules: &[u32], count: usize, string: &[u8], part
 }
 
 // All parts of the string, shorter ones first.
-fn fill_table(table: &mut [u64], rules: &[u32], count: usize, string: &[u8])
-    requires { (length table.old ≡ TABLE_LENGTH) × (count ≤ MAX_RULES) × (length string.now ≤ MAX_LENGTH) }
+fn fill_table(table: &mut Table, rules: &[u32], count: usize, string: &[u8])
+    requires { (count ≤ MAX_RULES) × (length string.now ≤ MAX_LENGTH) }
     ensures { table.new ≡ fill_table rules.now count string.now table.old }
 {
     for p in 0..MAX_LENGTH * string.len() {
@@ -260,16 +233,7 @@ fn fill_table(table: &mut [u64], rules: &[u32], count: usize, string: &[u8])
         if string.len() < from + len {
             continue;
         }
-        fill_part(
-            table,
-            rules,
-            count,
-            string,
-            Part {
-                from: from,
-                length: len,
-            },
-        );
+        fill_part(table, rules, count, string, Part { from, length: len });
     }
 }
 
@@ -292,45 +256,43 @@ fn asked_of(first: u32, c: Cell) -> u64
     if first == 0 { c.above } else { c.least }
 }
 
-// The answer for a grammar that was accepted and a length that there is room for.
-fn answer(rules: &[u32], sizes: Sizes, n: usize, first: u32, out: &mut [u8]) -> Answered
+// The answer for a grammar that was accepted and a length that there is room for: the length of the string, or 0 where there is none.
+fn answer(rules: &[u32], sizes: Sizes, n: usize, first: u32, out: &mut [u8]) -> usize
     requires { Bounded sizes × (0 < n) × (n ≤ MAX_LENGTH) × (n ≤ length out.old) }
     ensures { (g : Grammar) → sizes ≡ sizes_of g → ValidGrammar g → Begins (rule_numbers g) rules.now
-        → WritesString (accepted (pick (eqb first 0) (next_phrase g n (take n out.old)) (first_phrase g n))) out.old result
-        out.new }
+        → let sought = pick (eqb first 0) (next_phrase g n (take n out.old)) (first_phrase g n)
+        in (result ≡ string_length sought) × (out.new ≡ output_of (accepted sought) out.old) }
 {
-    let mut table = [NO_STRING; TABLE_LENGTH];
+    let mut table = [NO_CELL; CELLS];
     fill_table(&mut table, rules, sizes.rules as usize, &out[..n]);
     let start = cell_of(Sym(0), Part { from: 0, length: n });
-    let found = asked_of(first, cell_at(&table, start));
+    let found = asked_of(first, table[start]);
     if found < NO_STRING {
         write(out, n, found);
-        return Answered::Written;
+        return n;
     }
-    Answered::Nothing
+    0
 }
 
 // The least word string of the wanted length that the grammar derives, and in a later call (`first` 0) the least above the one at the front of
-// the output; one word number a byte, at the front of the output.
-pub fn next_phrase(grammar: &[u8], wanted: u32, first: u32, out: &mut [u8]) -> Answered
+// the output; one word number a byte, at the front of the output: its length, or 0 where there is none.
+#[tactic(auto, unfolding(specimen::specs::Conditions::asked, crate::specs::NextPhrase::next))]
+pub fn next_phrase(
+    grammar: &[u8],
+    wanted: u32,
+    first: u32,
+    out: &mut [u8],
+) -> Result<usize, Refusal>
     ensures { WritesString (next grammar.now wanted first out.old) out.old result out.new }
 {
     let mut rules = [0u32; RULES_LENGTH];
-    let read = grammar_reader::read_block(grammar, &mut rules);
-    match read {
-        GrammarRead::Refused(n) => Answered::Refused(n),
-        GrammarRead::Grammar(sizes) => {
-            if wanted < 1 {
-                return Answered::Refused(refused::SPECIMEN_LENGTH);
-            }
-            if MAX_WANTED < wanted {
-                return Answered::Refused(refused::SPECIMEN_LENGTH);
-            }
-            let n = wanted as usize;
-            if out.len() < n {
-                return Answered::Refused(refused::SPECIMEN_OUTPUT);
-            }
-            answer(&rules, sizes, n, first, out)
-        }
+    let sizes = read_block(grammar, &mut rules)?;
+    if wanted < 1 || MAX_WANTED < wanted {
+        return Err(Refusal::SpecimenLength);
     }
+    let n = wanted as usize;
+    if out.len() < n {
+        return Err(Refusal::SpecimenOutput);
+    }
+    Ok(answer(&rules, sizes, n, first, out))
 }

@@ -6,10 +6,9 @@ use Prim.Native.Nat.{ℕ, zero, suc}
 use native.Mathlib.Omega.{arith}
 use lib.Dec.{eqb}
 use Rattle.bits.specs.Bits.{pick}
-use Rattle.packing.specs.Source.{numbers, field_at}
+use Rattle.packing.specs.Source.{numbers, field_at, Field}
 use Rattle.packing.specs.Grammar as G
 use Rattle.packing.specs.Rows.{OfficeSheetRow}
-use Rattle.packing.specs.declared.Field.{Field}
 use Rattle.packing.proofs.Refusals.{Stops, going, Refuses, bind, unlike_row, finish_row, InRow, told, ranged, field_at_row}
 use Rattle.office.specs.Sheet.{item_from, items_from, office_rule_from, rule_alike, office_from, office_sheet}
 

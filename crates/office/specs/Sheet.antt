@@ -4,11 +4,10 @@ use Rattle.std.specs.Prelude.{Bool, true, false, ◌&&◌, List, [], ◌∷◌, 
 use Rattle.bits.specs.Bits.{pick}
 use Rattle.packing.specs.Meaning.{symbol_of, word}
 use Rattle.packing.specs.Parse.{Parse, parsed, ◌⟫◌, Verdict, finish}
-use Rattle.packing.specs.Source.{numbers, field_at, within}
+use Rattle.packing.specs.Source.{numbers, field_at, within, Field}
 use Rattle.packing.specs.Alike.{unlike_from}
 use Rattle.packing.specs.Grammar as G
 use Rattle.packing.specs.Grammar.{size_field, weight_field, first_of}
-use Rattle.packing.specs.declared.Field.{Field}
 use Rattle.office.specs.Office.{Item, symbol, spoken, OfficeRule, rule, Office}
 
 -- the number of items, and the kind of an item: a body of n items has a 0 (a symbol) only where n is not 1, else 55

@@ -20,24 +20,22 @@ use Rattle.office.specs.Conversion.{convert, marks, convert_marked}
 use Rattle.office.proofs.Marked.{marked_grammar, marked_marks}
 use Rattle.office.proofs.Steps.{result_rules}
 use Rattle.office_conversion.specs.Limits.{office_grammar}
-use Rattle.office_conversion.specs.Answer.{answer_of, RulesIn}
-use Rattle.office_conversion.specs.declared.OfficeGrammar.TheVariants.{Grammar, Refused}
+use Rattle.office_conversion.specs.Answer.{sizes_told, RulesIn}
 use Rattle.office_conversion.proofs.Limits.{limited, some_symbol, words_between, office_first}
 use Rattle.office_block.specs.Block.{office_to_block}
 use Rattle.office_block.proofs.Marks.{Left, marks_stand}
 
-refused_told : (v : Verdict Office) (k : Office → Verdict (List ℕ)) {n : ℕ} → answer_of v ≡ Refused n → (v then k) ≡ refused n
-refused_told (accepted o) k e = let z : ◌≡◌ {A = ℕ} 0 1 = cc in absurd (omega arith)
+refused_told : (v : Verdict Office) (k : Office → Verdict (List ℕ)) {n : ℕ} → refused n ≡ sizes_told v → (v then k) ≡ refused n
+refused_told (accepted o) k e = cc
 refused_told (refused m) k e = cc
 
 -- what holds of each accepted office grammar holds of the sizes answered
-of_office : (P : Sizes → ℕ → Type 0) (v : Verdict Office) {z : Sizes} {first : ℕ} → answer_of v ≡ Grammar z first
+of_office : (P : Sizes → ℕ → Type 0) (v : Verdict Office) {z : Sizes} {first : ℕ} → accepted (z, first) ≡ sizes_told v
     → ((o : Office) → v ≡ accepted o → P (sizes (convert o)) (length o.rules)) → P z first
 of_office P (accepted o) {z} {first} e h =
-    let s : sizes (convert o) ≡ z = cc in
-    let k : length o.rules ≡ first = cc in
-    subst (P z) k (subst (λ (y : Sizes). P y (length o.rules)) s (h o refl))
-of_office P (refused m) e h = let z : ◌≡◌ {A = ℕ} 0 1 = cc in absurd (omega arith)
+    let p : (sizes (convert o), length o.rules) ≡ (z, first) = cc in
+    subst (λ (y : Sizes × ℕ). P y.0 y.1) p (h o refl)
+of_office P (refused m) e h = cc
 
 -- its block, from the arrays
 block_made : (o : Office) (rules array : List ℕ) → Begins (rule_numbers (convert o)) rules → Begins (marks o) array
@@ -50,11 +48,11 @@ block_made o rules array b c =
     (subst (λ (l : List ℕ). Begins l array) (sym (marked_marks o)) c))
 
 module _ (s : List ℕ) where
-  pub not_converted : {n : ℕ} → answer_of (office_grammar s) ≡ Refused n → office_to_block s ≡ refused n
+  pub not_converted : {n : ℕ} → refused n ≡ sizes_told (office_grammar s) → office_to_block s ≡ refused n
   unfolding office_to_block
   not_converted e = refused_told (office_grammar s) _ e
 
-  module _ {z : Sizes} {first : ℕ} (e : answer_of (office_grammar s) ≡ Grammar z first) where
+  module _ {z : Sizes} {first : ℕ} (e : accepted (z, first) ≡ sizes_told (office_grammar s)) where
     pub marks_room : (first ≤ z.rules) × (z.rules ≤ 256)
     marks_room =
         of_office (λ y f. (f ≤ y.rules) × (y.rules ≤ 256)) (office_grammar s) e

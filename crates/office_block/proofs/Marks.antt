@@ -3,26 +3,28 @@ use mathlib.Core.Path.{◌≡◌, refl, sym, ap, ◌∙◌}
 use mathlib.Core.List.{List, [], ◌∷◌, ◌++◌, map, append_assoc}
 use Prim.Native.Nat.{ℕ, zero, suc, ◌+◌, ◌-◌, ◌≤◌, ◌<◌}
 use native.Mathlib.Omega.{arith}
-use lib.ListN.{length, set, take, drop, replicate, length-replicate}
-use lib.Seq.{take-append_seam}
+use lib.ListN.{length, set, take, drop, replicate, length-replicate, length-drop}
+use lib.Seq.{take-append_seam, length-take-le, drop-drop}
+use borrow.Rule.Slice.PartMut.{put_mid}
 use Rattle.packing.specs.Flat.{Begins}
 use Rattle.packing.specs.Store.{store_all}
 use Rattle.packing.proofs.Store.{store_at}
 use Rattle.office.specs.Office.{Office}
 use Rattle.office.specs.Conversion.{helpers, marks}
 
--- what is left of the ones up to place n is stored behind those that are
-module _ (n : ℕ) where
-  abbrev pub Left : List ℕ → ℕ → List ℕ
-  Left a i = store_all a i (replicate (n - i) 1)
+-- ones from place i up to place n
+abbrev pub Left : ℕ → List ℕ → ℕ → List ℕ
+Left n a i = store_all a i (replicate (n - i) 1)
 
-  pub ones_turn : (i : ℕ) → i < n → (a : List ℕ) {after : List ℕ} → after ≡ set a i 1 → Left after (i + 1) ≡ Left a i
-  unfolding store_all
-  ones_turn i h a e = let z : n - i ≡ suc (n - (i + 1)) = omega arith in rw (z, e)
-
-  pub ones_end : (i : ℕ) → n ≤ i → (a : List ℕ) → Left a i ≡ a
-  unfolding store_all
-  ones_end i h a = let z : n - i ≡ 0 = omega arith in rw z
+-- filled in at once
+pub ones_put : (a : List ℕ) (i n : ℕ) {z : List ℕ} → i ≤ n → n ≤ length a → z ≡ replicate (length (take (n - i) (drop i a))) 1
+    → put_mid i (n - i) a z ≡ Left n a i
+ones_put a i n {z} l h e =
+    let ones : List ℕ = replicate (n - i) 1 in
+    let room : n - i ≤ length (drop i a) = rw (length-drop i a) (omega arith) in
+    let all : z ≡ ones = rw (length-take-le (n - i) (drop i a) room) at e in
+    let size : length ones ≡ n - i = length-replicate (n - i) 1 in
+    rw (all, store_at a i ones (omega arith), size, drop-drop)
 
 zeros : (n m : ℕ) → n ≤ m → take {A = ℕ} n (replicate m 0) ≡ replicate n 0
 zeros zero m h = refl

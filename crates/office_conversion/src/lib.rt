@@ -3,35 +3,29 @@
 
 ghost use Rattle.std.specs.Prelude.{◌≡◌, List, [], ◌∷◌, ◌++◌, ℕ, ◌+◌, ◌-◌, ◌*◌, ◌^◌, ◌≤◌, ◌<◌, length};
 ghost use Rattle.packing.specs.Meaning.{word};
+ghost use Rattle.packing.specs.Read.{as_verdict};
 ghost use Rattle.packing.specs.Store.{store_all};
 ghost use Rattle.packing.specs.declared.Rule as R;
 ghost use Rattle.office.specs.Conversion.{Helper, with_word, with_words, chain, chain_top, helper_rules, becomes, after};
 ghost use Rattle.office.specs.Flat.{item_at, items_at, office_rule_at, office_rules_at};
 ghost use Rattle.office_conversion.specs.Pass.{rows_of, symbol_at, symbols_at, Holds, Converted, WordsBelow, Passable, AllPassable};
 ghost use Rattle.office_conversion.specs.Limits.{office_grammar};
-ghost use Rattle.office_conversion.specs.Answer.{answer_of, RulesIn};
+ghost use Rattle.office_conversion.specs.Answer.{sizes_told, RulesIn};
 
 use grammar_reader::Sizes;
-use office_reader::{ITEM_COUNT_AT, ITEMS_AT, NUMBERS_PER_ITEM, OfficeRead, SYMBOL_ITEM};
+use office_reader::{ITEM_COUNT_AT, ITEMS_AT, NUMBERS_PER_ITEM, SYMBOL_ITEM};
 use packing::format::{
     GRAMMAR_SHEET_HEAD, MAX_ITEMS, MAX_RULES, MAX_SYMBOLS, MAX_WORDS, NUMBERS_PER_RULE, PAIR_RULE,
     RULE_FIRST_AT, RULE_HEAD_AT, RULE_SECOND_AT, RULE_WEIGHT_AT, RULES_LENGTH, WORD_RULE,
 };
-use packing::refused;
-
-// What an office sheet's grammar is: its sizes, with its rules in the lent array, and the number from which on they are helpers'
-// and marked; or the refusal.
-#[derive(Clone, Copy)]
-pub enum OfficeGrammar {
-    Grammar(Sizes, u32),
-    Refused(u32),
-}
+use packing::refusal::Refusal;
 
 // S and R of an office grammar: helper k is symbol S + k, and its rule is rule R + k.
 #[derive(Clone, Copy)]
 pub struct Base {
     pub symbols: u32,
     pub rules: u32,
+    pub ghost in_range: { (1 ≤ symbols) × (symbols ≤ 32) × (rules ≤ 256) },
 }
 
 // The greatest S and R of a grammar.
@@ -83,12 +77,11 @@ fn top_of(sheet: &[u32], places: &[u32], p: usize, n: u32, symbols: u32, k: u32)
 
 // The helpers of the chain of n items from place p on, the first of which is helper k.
 fn put_chain(sheet: &[u32], places: &[u32], p: usize, n: u32, rules: &mut [u32], base: Base, k: u32)
-    requires { (p < 2 ^ 50) × (1 ≤ n) × (n ≤ MAX_ITEMS) × (base.symbols ≤ MAX_SYMBOLS) × (base.rules ≤ MAX_RULES) × (k < 16384) }
+    requires { (p < 2 ^ 50) × (1 ≤ n) × (n ≤ MAX_ITEMS) × (k < 16384) }
     ensures { rules.new ≡ store_all rules.old (5 * (base.rules + k))
         (rows_of (helper_rules base.symbols k (chain base.symbols k (symbols_at sheet.now places.now p n)))) }
 {
-    let mut j: u32 = 0;
-    while j + 1 < n {
+    for j in 0..n - 1 {
         let at = p + NUMBERS_PER_ITEM * arrays::wide(j);
         let first = symbol_of(sheet, places, at);
         let rest = top_of(
@@ -108,13 +101,12 @@ fn put_chain(sheet: &[u32], places: &[u32], p: usize, n: u32, rules: &mut [u32],
             first,
             rest,
         );
-        j += 1;
     }
 }
 
 // A word that has no helper yet gets the next: the helpers' count then.
 fn add_word(rules: &mut [u32], places: &mut [u32], base: Base, k: u32, x: u32) -> u32
-    requires { (1 ≤ base.symbols) × (base.symbols ≤ MAX_SYMBOLS) × (base.rules ≤ MAX_RULES) × (k < 32768) × (x < MAX_WORDS) }
+    requires { (k < 32768) × (x < MAX_WORDS) }
     ensures { (k ≤ result) × (result ≤ k + 1) × ((a : List ℕ) (hs : List Helper) (rs : List R.Rule)
         → Holds base.symbols base.rules a hs rs places.old rules.old k
         → Holds base.symbols base.rules a (with_word (word x) hs) rs places.new rules.new result) }
@@ -144,8 +136,7 @@ fn add_item(
     base: Base,
     k: u32,
 ) -> u32
-    requires { (at < 2 ^ 60) × (1 ≤ base.symbols) × (base.symbols ≤ MAX_SYMBOLS) × (base.rules ≤ MAX_RULES) × (k < 32768)
-        × WordsBelow (item_at sheet.now at ∷ []) }
+    requires { (at < 2 ^ 60) × (k < 32768) × WordsBelow (item_at sheet.now at ∷ []) }
     ensures { (k ≤ result) × (result ≤ k + 1) × ((a : List ℕ) (hs : List Helper) (rs : List R.Rule)
         → Holds base.symbols base.rules a hs rs places.old rules.old k
         → Holds base.symbols base.rules a (with_words (item_at sheet.now at ∷ []) hs) rs places.new rules.new result) }
@@ -168,18 +159,15 @@ fn add_words(
     base: Base,
     first: u32,
 ) -> u32
-    requires { (p < 2 ^ 59) × (n ≤ MAX_ITEMS) × (1 ≤ base.symbols) × (base.symbols ≤ MAX_SYMBOLS) × (base.rules ≤ MAX_RULES)
-        × (first < 16000) × WordsBelow (items_at sheet.now p n) }
+    requires { (p < 2 ^ 59) × (n ≤ MAX_ITEMS) × (first < 16000) × WordsBelow (items_at sheet.now p n) }
     ensures { (first ≤ result) × (result ≤ first + 6) × ((a : List ℕ) (hs : List Helper) (rs : List R.Rule)
         → Holds base.symbols base.rules a hs rs places.old rules.old first
         → Holds base.symbols base.rules a (with_words (items_at sheet.now p n) hs) rs places.new rules.new result) }
 {
     let mut k = first;
-    let mut j: u32 = 0;
-    while j < n {
+    for j in 0..n {
         let at = p + NUMBERS_PER_ITEM * arrays::wide(j);
         k = add_item(sheet, at, rules, places, base, k);
-        j += 1;
     }
     k
 }
@@ -194,8 +182,7 @@ fn convert_rule(
     base: Base,
     k: u32,
 ) -> u32
-    requires { (p < 2 ^ 49) × (i < base.rules) × (1 ≤ base.symbols) × (base.symbols ≤ MAX_SYMBOLS) × (base.rules ≤ MAX_RULES) × (k < 8192)
-        × Passable (office_rule_at sheet.now p) }
+    requires { (p < 2 ^ 49) × (i < base.rules) × (k < 8192) × Passable (office_rule_at sheet.now p) }
     ensures { (result ≤ k + 10) × ((a : List ℕ) (hs : List Helper) (rs : List R.Rule) → i ≡ length rs
         → Holds base.symbols base.rules a hs rs places.old rules.old k
         → Holds base.symbols base.rules a (after base.symbols hs (office_rule_at sheet.now p))
@@ -235,50 +222,37 @@ fn convert_rule(
 // The rules of an accepted sheet: the office's under their own numbers, then the helpers' by helper number, as far as the array has
 // room; and how many helpers there are.
 fn convert(sheet: &[u32], rules: &mut [u32], base: Base) -> u32
-    requires { (1 ≤ base.symbols) × (base.symbols ≤ MAX_SYMBOLS) × (base.rules ≤ MAX_RULES)
-        × AllPassable (office_rules_at sheet.now 3 base.rules) }
+    requires { AllPassable (office_rules_at sheet.now 3 base.rules) }
     ensures { Converted base.symbols base.rules (office_rules_at sheet.now 3 base.rules) rules.old rules.new result }
 {
     let mut places = [0u32; MAX_WORDS];
     let mut p: usize = GRAMMAR_SHEET_HEAD;
     let mut k: u32 = 0;
-    let mut i: usize = 0;
-    let end = arrays::wide(base.rules);
-    while i < end {
+    for i in 0..base.rules as usize {
         k = convert_rule(sheet, p, rules, &mut places, i, base, k);
-        p = p + ITEMS_AT + NUMBERS_PER_ITEM * arrays::number_at(sheet, p + ITEM_COUNT_AT);
-        i += 1;
+        p += ITEMS_AT + NUMBERS_PER_ITEM * arrays::number_at(sheet, p + ITEM_COUNT_AT);
     }
     k
 }
 
-// The grammar of an office sheet, into the array.
-pub fn read_grammar(sheet: &[u32], rules: &mut [u32]) -> OfficeGrammar
+// The grammar of an office sheet, into the array: its sizes, and the number from which on its rules are helpers' and marked.
+pub fn read_grammar(sheet: &[u32], rules: &mut [u32]) -> Result<(Sizes, u32), Refusal>
     requires { RULES_LENGTH ≤ length rules.old }
-    ensures { (result ≡ answer_of (office_grammar sheet.now)) × RulesIn (office_grammar sheet.now) rules.new }
+    ensures { (as_verdict result ≡ sizes_told (office_grammar sheet.now)) × RulesIn (office_grammar sheet.now) rules.new }
 {
-    match office_reader::read_sheet(sheet) {
-        OfficeRead::Refused(n) => OfficeGrammar::Refused(n),
-        OfficeRead::Office(z) => {
-            let base = Base {
-                symbols: z.symbols,
-                rules: z.rules,
-            };
-            let k = convert(sheet, rules, base);
-            let symbols = z.symbols + k;
-            let count = z.rules + k;
-            if MOST_SYMBOLS < symbols {
-                return OfficeGrammar::Refused(refused::OFFICE_SIZE);
-            }
-            if MOST_RULES < count {
-                return OfficeGrammar::Refused(refused::OFFICE_SIZE);
-            }
-            let sizes = Sizes {
-                symbols,
-                words: z.words,
-                rules: count,
-            };
-            OfficeGrammar::Grammar(sizes, z.rules)
-        }
+    let z = office_reader::read_sheet(sheet)?;
+    let base = Base {
+        symbols: z.symbols,
+        rules: z.rules,
+    };
+    let k = convert(sheet, rules, base);
+    let sizes = Sizes {
+        symbols: z.symbols + k,
+        words: z.words,
+        rules: z.rules + k,
+    };
+    if MOST_SYMBOLS < sizes.symbols || MOST_RULES < sizes.rules {
+        return Err(Refusal::OfficeSize);
     }
+    Ok((sizes, z.rules))
 }

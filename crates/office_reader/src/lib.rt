@@ -1,22 +1,22 @@
 // Office sheets: whether one is accepted, and its sizes. The sheet is itself a flat array of its rules, so nothing is copied.
 #![tactic(auto)]
 
-ghost use Rattle.std.specs.Prelude.{◌≡◌, ◌+◌, ◌^◌, ◌≤◌, ◌<◌, length, []};
-ghost use Rattle.packing.specs.Source.{numbers, field_at};
-ghost use Rattle.packing.specs.Read.{read_of};
+ghost use Rattle.std.specs.Prelude.{◌≡◌, ◌+◌, ◌^◌, ◌≤◌, ◌<◌, eqb, length, get_or, []};
+ghost use Rattle.packing.specs.Read.{field_of, as_verdict};
 ghost use Rattle.packing.specs.Alike.{any_like};
-ghost use Rattle.packing.specs.Ranges.{Ranges};
 ghost use Rattle.office.specs.Sheet.{item_kind, item_alike, items_alike, rule_alike, item_from, items_from, office_rule_from, office_rules_from, office_sheet};
 ghost use Rattle.office.specs.Flat.{item_at, items_at, office_rule_at, office_rules_at};
-ghost use Rattle.rules_reader.specs.Rules.{Filters};
-ghost use Rattle.office_reader.specs.Answer.{reached_of, answer_of, InBounds};
+ghost use Rattle.rules_reader.specs.Rules.{Filters, place_of, reached};
+ghost use Rattle.grammar_reader.specs.Answer.{InBounds};
+ghost use Rattle.office_reader.specs.Answer.{sizes_told};
 ghost use Rattle.office_reader.specs.Filter.{item_number, items_place, rule_place};
 
-use bits::{MAX_FIELD_WIDTH, MAX_WIDTH};
-use grammar_reader::{Sizes, SizesRead};
+use bits::MAX_WIDTH;
+use grammar_reader::Sizes;
 use packing::format::{GRAMMAR_SHEET_HEAD, MAX_ITEMS, MAX_RULES, WEIGHT_FIELD};
-use packing::{Field, Read, Source, refused};
-use rules_reader::{Vocabulary, first_of, symbol_of};
+use packing::refusal::Refusal;
+use packing::{Field, Source};
+use rules_reader::Vocabulary;
 
 // Of each rule an office sheet has head, weight and item count, then the items; of each item its kind and its number.
 pub const ITEM_COUNT_AT: usize = 2;
@@ -29,118 +29,69 @@ pub const SYMBOL_ITEM: u32 = 0;
 
 pub const WORD_ITEM: u32 = 1;
 
-// The place behind a part of the sheet, or the refusal.
-#[derive(Clone, Copy)]
-pub enum Reached {
-    Upto(usize),
-    Refused(u32),
-}
-
-// What an office sheet says: its sizes, or the refusal.
-#[derive(Clone, Copy)]
-pub enum OfficeRead {
-    Office(Sizes),
-    Refused(u32),
-}
-
 const ITEM_COUNT_FIELD: Field = Field {
     width: 0,
     least: 1,
     most: MAX_ITEMS,
-    below: refused::ITEM_COUNT,
-    above: refused::ITEM_COUNT,
+    below: Refusal::ItemCount,
+    above: Refusal::ItemCount,
 };
-
-// The number at a place of the sheet.
-fn number(sheet: &[u32], at: usize, f: Field) -> Read
-    requires { (at < 2 ^ 32) × (f.width ≤ MAX_FIELD_WIDTH) }
-    ensures { result ≡ read_of (field_at (numbers sheet.now) at f) }
-{
-    let no_block = [0u8; 1];
-    packing::field_at(Source::Sheet, &no_block, sheet, at, f)
-}
 
 // The field of an item's kind in a body of `count` items: one item is a word.
 fn kind_field(count: u32) -> Field
-    ensures { (result ≡ item_kind count) × (result.width ≤ MAX_WIDTH) }
+    ensures { (field_of result ≡ item_kind count) × (result.width ≤ MAX_WIDTH) }
 {
-    if count == 1 {
-        return Field {
-            width: 0,
-            least: WORD_ITEM,
-            most: WORD_ITEM,
-            below: refused::ITEM_ALONE,
-            above: refused::SHEET_VALUE,
-        };
-    }
     Field {
         width: 0,
-        least: SYMBOL_ITEM,
+        least: if count == 1 { WORD_ITEM } else { SYMBOL_ITEM },
         most: WORD_ITEM,
-        below: refused::ITEM_ALONE,
-        above: refused::SHEET_VALUE,
+        below: Refusal::ItemAlone,
+        above: Refusal::SheetValue,
     }
 }
 
-// An item of a body of `count`.
-fn read_item(sheet: &[u32], at: usize, v: Vocabulary, count: u32) -> Reached
-    requires { (at < 2 ^ 31) × Ranges v.symbols v.words }
-    ensures { result ≡ reached_of (item_from sheet.now v.symbols v.words count at) }
+// An item of a body of `count`: the place behind it.
+#[tactic(auto, unfolding(office::specs::Sheet::item_from))]
+fn read_item(sheet: &[u32], at: usize, v: Vocabulary, count: u32) -> Result<usize, Refusal>
+    requires { at < 2 ^ 31 }
+    ensures { reached result ≡ place_of (item_from sheet.now v.symbols v.words count at) }
 {
-    let read = number(sheet, at, kind_field(count));
-    let Read::Number(kind, c) = read else {
-        return Reached::Refused(packing::refusal(read));
-    };
-    let next = c.at;
-    let read = number(sheet, next, first_of(v, kind));
-    let Read::Number(_, c) = read else {
-        return Reached::Refused(packing::refusal(read));
-    };
-    Reached::Upto(c.at)
+    let src = Source::Sheet(sheet);
+    let (kind, at) = src.field_at(at, kind_field(count))?;
+    let (_, at) = src.field_at(at, v.first(kind))?;
+    Ok(at)
 }
 
-// The items of a body.
-fn read_items(sheet: &[u32], start: usize, v: Vocabulary, count: u32) -> Reached
-    requires { (start < 2 ^ 30) × (count ≤ MAX_ITEMS) × Ranges v.symbols v.words }
-    ensures { result ≡ reached_of (items_from sheet.now v.symbols v.words count count start) }
+// The items of a body: the place behind them.
+fn read_items(sheet: &[u32], start: usize, v: Vocabulary, count: u32) -> Result<usize, Refusal>
+    requires { (start < 2 ^ 30) × (count ≤ MAX_ITEMS) }
+    ensures { reached result ≡ place_of (items_from sheet.now v.symbols v.words count count start) }
 {
     let mut at = start;
-    let mut i: u32 = 0;
-    while i < count {
-        match read_item(sheet, at, v, count) {
-            Reached::Refused(n) => {
-                return Reached::Refused(n);
-            }
-            Reached::Upto(next) => {
-                at = next;
-                i += 1;
-            }
-        }
+    for _i in 0..count {
+        at = read_item(sheet, at, v, count)?;
     }
-    Reached::Upto(at)
+    Ok(at)
 }
 
-// The rule at a place.
-fn read_rule(sheet: &[u32], at: usize, v: Vocabulary) -> Reached
-    requires { (at < 2 ^ 29) × Ranges v.symbols v.words }
-    ensures { result ≡ reached_of (office_rule_from sheet.now v.symbols v.words at) }
+// The rule at a place: the place behind it.
+#[tactic(auto, unfolding(office::specs::Sheet::office_rule_from))]
+fn read_rule(sheet: &[u32], at: usize, v: Vocabulary) -> Result<usize, Refusal>
+    requires { at < 2 ^ 29 }
+    ensures { reached result ≡ place_of (office_rule_from sheet.now v.symbols v.words at) }
 {
-    let read = number(sheet, at, symbol_of(v));
-    let Read::Number(_, c) = read else {
-        return Reached::Refused(packing::refusal(read));
-    };
-    let next = c.at;
-    let read = number(sheet, next, WEIGHT_FIELD);
-    let Read::Number(_, c) = read else {
-        return Reached::Refused(packing::refusal(read));
-    };
-    let next = c.at;
-    let read = number(sheet, next, ITEM_COUNT_FIELD);
-    let Read::Number(count, c) = read else {
-        return Reached::Refused(packing::refusal(read));
-    };
-    let next = c.at;
-    read_items(sheet, next, v, count)
+    let src = Source::Sheet(sheet);
+    let (_, at) = src.field_at(at, v.symbol())?;
+    let (_, at) = src.field_at(at, WEIGHT_FIELD)?;
+    let (count, at) = src.field_at(at, ITEM_COUNT_FIELD)?;
+    read_items(sheet, at, v, count)
+}
+
+// Whether the item at a place is a symbol.
+fn is_symbol(sheet: &[u32], p: usize) -> bool
+    ensures { result ≡ eqb (get_or sheet.now p 0) 0 }
+{
+    arrays::narrow_at(sheet, p) == SYMBOL_ITEM
 }
 
 // Whether the items at two places are alike.
@@ -148,18 +99,8 @@ fn same_item(sheet: &[u32], p: usize, q: usize) -> bool
     requires { (p < 2 ^ 60) × (q < 2 ^ 60) }
     ensures { result ≡ item_alike (item_at sheet.now p) (item_at sheet.now q) }
 {
-    let first = arrays::narrow_at(sheet, p + 1);
-    let second = arrays::narrow_at(sheet, q + 1);
-    if arrays::narrow_at(sheet, p) == SYMBOL_ITEM {
-        if arrays::narrow_at(sheet, q) == SYMBOL_ITEM {
-            return first == second;
-        }
-        return false;
-    }
-    if arrays::narrow_at(sheet, q) == SYMBOL_ITEM {
-        return false;
-    }
-    first == second
+    let same_number = arrays::narrow_at(sheet, p + 1) == arrays::narrow_at(sheet, q + 1);
+    same_number && is_symbol(sheet, p) == is_symbol(sheet, q)
 }
 
 // Whether n items from two places on are alike.
@@ -167,11 +108,8 @@ fn same_items(sheet: &[u32], p: usize, q: usize, n: usize) -> bool
     requires { (p < 2 ^ 50) × (q < 2 ^ 50) × (n < 2 ^ 32) }
     ensures { result ≡ items_alike (items_at sheet.now p n) (items_at sheet.now q n) }
 {
-    let mut i: usize = 0;
-    while i < n {
-        if same_item(sheet, p + NUMBERS_PER_ITEM * i, q + NUMBERS_PER_ITEM * i) {
-            i += 1;
-        } else {
+    for i in 0..n {
+        if !same_item(sheet, p + NUMBERS_PER_ITEM * i, q + NUMBERS_PER_ITEM * i) {
             return false;
         }
     }
@@ -185,12 +123,10 @@ fn same_rule(sheet: &[u32], p: usize, q: usize) -> bool
 {
     let n = arrays::number_at(sheet, p + ITEM_COUNT_AT);
     let m = arrays::number_at(sheet, q + ITEM_COUNT_AT);
-    if arrays::narrow_at(sheet, p) == arrays::narrow_at(sheet, q) {
-        if n == m {
-            return same_items(sheet, p + ITEMS_AT, q + ITEMS_AT, n);
-        }
+    if arrays::narrow_at(sheet, p) != arrays::narrow_at(sheet, q) {
+        return false;
     }
-    false
+    n == m && same_items(sheet, p + ITEMS_AT, q + ITEMS_AT, n)
 }
 
 // Whether the rule at a place is alike one of the first n.
@@ -199,13 +135,11 @@ fn seen(sheet: &[u32], n: usize, at: usize) -> bool
     ensures { result ≡ any_like rule_alike (office_rule_at sheet.now at) (office_rules_at sheet.now 3 n) }
 {
     let mut p: usize = GRAMMAR_SHEET_HEAD;
-    let mut i: usize = 0;
-    while i < n {
+    for _i in 0..n {
         if same_rule(sheet, at, p) {
             return true;
         }
-        p = p + ITEMS_AT + NUMBERS_PER_ITEM * arrays::number_at(sheet, p + ITEM_COUNT_AT);
-        i += 1;
+        p += ITEMS_AT + NUMBERS_PER_ITEM * arrays::number_at(sheet, p + ITEM_COUNT_AT);
     }
     false
 }
@@ -222,7 +156,7 @@ fn item_number(sheet: &[u32], p: usize) -> usize
     ensures { (result ≡ item_number (item_at sheet.now p)) × (result < 2 ^ 40) }
 {
     let number = arrays::number_at(sheet, p + 1);
-    if arrays::narrow_at(sheet, p) == SYMBOL_ITEM {
+    if is_symbol(sheet, p) {
         return 2 * number;
     }
     2 * number + 1
@@ -234,15 +168,14 @@ fn items_place(sheet: &[u32], p: usize, n: usize, start: usize) -> usize
     ensures { (result ≡ items_place (items_at sheet.now p n) start) × (result < FILTER_PLACES) }
 {
     let mut place = start;
-    let mut i: usize = 0;
-    while i < n {
+    for i in 0..n {
         place = (place * ITEM_STEP + item_number(sheet, p + NUMBERS_PER_ITEM * i)) % FILTER_PLACES;
-        i += 1;
     }
     place
 }
 
 // Where the rule at a place stands in a filter.
+#[tactic(auto, unfolding(crate::specs::Filter::rule_place))]
 fn rule_place(sheet: &[u32], at: usize) -> usize
     requires { at < 2 ^ 49 }
     ensures { (result ≡ rule_place (office_rule_at sheet.now at)) × (result < FILTER_PLACES) }
@@ -258,61 +191,40 @@ fn repeated(sheet: &[u32], filter: &[u8], n: usize, at: usize, place: usize) -> 
         × Filters rule_alike rule_place (office_rules_at sheet.now 3 n) filter.now }
     ensures { result ≡ any_like rule_alike (office_rule_at sheet.now at) (office_rules_at sheet.now 3 n) }
 {
-    if filter[place] == 0 {
-        return false;
-    }
-    seen(sheet, n, at)
+    filter[place] != 0 && seen(sheet, n, at)
 }
 
-// The rules.
-fn read_rules(sheet: &[u32], v: Vocabulary, count: usize) -> Reached
-    requires { (count ≤ MAX_RULES) × Ranges v.symbols v.words }
-    ensures { result ≡ reached_of (office_rules_from sheet.now v.symbols v.words count 3 []) }
+// The rules: the place behind them.
+fn read_rules(sheet: &[u32], v: Vocabulary, count: usize) -> Result<usize, Refusal>
+    requires { count ≤ MAX_RULES }
+    ensures { reached result ≡ place_of (office_rules_from sheet.now v.symbols v.words count 3 []) }
 {
     let mut filter = [0u8; FILTER_PLACES];
     let mut at: usize = GRAMMAR_SHEET_HEAD;
-    let mut i: usize = 0;
-    while i < count {
-        match read_rule(sheet, at, v) {
-            Reached::Refused(n) => {
-                return Reached::Refused(n);
-            }
-            Reached::Upto(next) => {
-                let place = rule_place(sheet, at);
-                if repeated(sheet, &filter, i, at, place) {
-                    return Reached::Refused(refused::GRAMMAR_REPEAT);
-                }
-                filter[place] = 1;
-                at = next;
-                i += 1;
-            }
+    for i in 0..count {
+        let next = read_rule(sheet, at, v)?;
+        let place = rule_place(sheet, at);
+        if repeated(sheet, &filter, i, at, place) {
+            return Err(Refusal::GrammarRepeat);
         }
+        filter[place] = 1;
+        at = next;
     }
-    Reached::Upto(at)
+    Ok(at)
 }
 
-// The meaning of an office sheet: its sizes.
-pub fn read_sheet(sheet: &[u32]) -> OfficeRead
-    ensures { (result ≡ answer_of (office_sheet sheet.now)) × InBounds result }
+// The sizes of an office sheet.
+pub fn read_sheet(sheet: &[u32]) -> Result<Sizes, Refusal>
+    ensures { (as_verdict result ≡ sizes_told (office_sheet sheet.now)) × InBounds result }
 {
-    let no_block = [0u8; 1];
-    let head = grammar_reader::read_sizes(Source::Sheet, &no_block, sheet, 0);
-    match head {
-        SizesRead::Refused(n) => OfficeRead::Refused(n),
-        SizesRead::Sizes(sizes, _) => {
-            let v = Vocabulary {
-                symbols: sizes.symbols,
-                words: sizes.words,
-            };
-            match read_rules(sheet, v, sizes.rules as usize) {
-                Reached::Refused(n) => OfficeRead::Refused(n),
-                Reached::Upto(end) => {
-                    if end == sheet.len() {
-                        return OfficeRead::Office(sizes);
-                    }
-                    OfficeRead::Refused(refused::SHEET_COUNT)
-                }
-            }
-        }
+    let (sizes, _) = grammar_reader::read_sizes(Source::Sheet(sheet), 0)?;
+    let v = Vocabulary {
+        symbols: sizes.symbols,
+        words: sizes.words,
+    };
+    let end = read_rules(sheet, v, sizes.rules as usize)?;
+    if end != sheet.len() {
+        return Err(Refusal::SheetCount);
     }
+    Ok(sizes)
 }

@@ -1,14 +1,24 @@
 -- What a call answers by its table, as functions. Nobody need believe this page: open_listing's theorems join it to its page Open.
-use Rattle.std.specs.Prelude.{◌≡◌, Bool, true, false, List, ◌++◌, ℕ, ◌≤◌, drop}
+use Rattle.std.specs.Prelude.{◌≡◌, Bool, true, false, List, ◌++◌, ℕ, ◌≤◌, Result, Ok, Err, drop}
 use Rattle.bits.specs.Bits.{pick}
+use Rattle.packing.specs.Refusal.{number}
+use Rattle.packing.specs.declared.refusal.Refusal.{Refusal}
 use Rattle.chart_table.specs.Table.{Sized}
 use Rattle.chart.specs.Chart.{root_spelled}
 use Rattle.traced_readings.specs.Model.{FormFor, block_at}
 use Rattle.open_answer.specs.declared.Plan.{Plan}
-use Rattle.open_answer.specs.declared.Answer as A
-use Rattle.open_answer.specs.declared.Answer.TheVariants.{Reading, NoMore, Full, Refused}
+use Rattle.open_answer.specs.Answer as A
+use Rattle.open_answer.specs.Answer.{Reading, NoMore, Full, Refused}
+use Rattle.open_answer.specs.declared.Answer as code
 
-abbrev pub is_reading : A.Answer → Bool
+-- what the code answers
+abbrev pub told : Result code.Answer Refusal → A.CallAnswer
+told (Ok code.TheVariants.Reading) = Reading
+told (Ok code.TheVariants.NoMore) = NoMore
+told (Ok code.TheVariants.Full) = Full
+told (Err r) = Refused (number r)
+
+abbrev pub is_reading : A.CallAnswer → Bool
 is_reading Reading = true
 is_reading NoMore = false
 is_reading Full = false
@@ -27,7 +37,7 @@ module _ (t rules edges : List ℕ) (p : Plan) (x : ℕ) where
   hands_out = root_spelled t rules edges (record { rules = p.form.rules; edges = p.edges; named = p.form.graph }) p.layout x
 
   -- the answer, where the rank is there, which the first test says
-  unfoldable pub settled : Bool → A.Answer
+  unfoldable pub settled : Bool → A.CallAnswer
   settled found = pick found (pick hands_out Reading (Refused 53)) NoMore
 
 -- the output, if the reading is written and if it is not

@@ -10,13 +10,12 @@ use mir.Syntax.{w32}
 use mir.Val.{to_z, of_z}
 use Rattle.packing.specs.Parse.{Verdict, accepted, refused}
 use Rattle.packing.specs.Rows.{◌∪◌, GrammarBlockRow, HeardBlockRow, OpenRow, CallRow}
+use Rattle.packing.proofs.Parse.{refused≢accepted}
 use Rattle.packing.proofs.Refusals.{refusal_number}
 use Rattle.open_listing.specs.Open as S
 use Rattle.open_search.specs.declared.Place.{Place}
-use Rattle.open_listing.specs.declared.Opened.{Opened}
-use Rattle.open_listing.specs.declared.Opened.TheVariants as O
-use Rattle.open_answer.specs.declared.Answer as A
-use Rattle.open_answer.specs.declared.Answer.TheVariants.{Reading, Refused}
+use Rattle.open_answer.specs.Answer as A
+use Rattle.open_answer.specs.Answer.{Reading, Refused}
 use Rattle.open_listing.proofs.Refused.{opening_row, refused_row, reading_below}
 use Rattle.open_search.specs.Model.{As}
 use Rattle.open_listing.specs.Model.{next_of}
@@ -44,38 +43,35 @@ module _ (grammar heard work : List ℕ) where
   abbrev due : Verdict S.Blocks
   due = S.opening grammar heard (length work)
 
-  told_open : (v : Verdict S.Blocks) {r : Opened} → r ≡ S.opened_of v → r ≡ O.Opened → (b : S.Blocks) × (v ≡ accepted b)
-  told_open (accepted b) e f = (b, refl)
-  told_open (refused n) e f = let z : ◌≡◌ {A = ℕ} 0 1 = cc in absurd (omega arith)
+  told_open : (v : Verdict S.Blocks) → accepted tt ≡ S.opened_of v → (b : S.Blocks) × (v ≡ accepted b)
+  told_open (accepted b) e = (b, refl)
+  told_open (refused n) e = absurd (refused≢accepted (sym e))
 
-  told_refused : (v : Verdict S.Blocks) {r : Opened} {n : ℕ} → r ≡ S.opened_of v → r ≡ O.Refused n → v ≡ refused n
-  told_refused (accepted b) e f = let z : ◌≡◌ {A = ℕ} 0 1 = cc in absurd (omega arith)
-  told_refused (refused m) {n = n} e f = let same : m ≡ n = cc in ap refused same
+  told_refused : (v : Verdict S.Blocks) {n : ℕ} → refused n ≡ S.opened_of v → v ≡ refused n
+  told_refused (accepted b) e = absurd (refused≢accepted e)
+  told_refused (refused m) {n = n} e = let same : m ≡ n = cc in ap refused same
 
   -- what is promised: the equations, and the record
   abbrev pub OpenTold : Place → Returned → Type 0
   OpenTold p t = OpenedAs due p work t × Open grammar heard p work t
 
-  module _ (p : Place) {r : Opened} {work' : List ℕ} (e : r ≡ S.opened_of due) (left : work' ≡ S.table_opened due work) where
-    pub opened : r ≡ O.Opened → OpenTold p (returned (pos 0) (place_at 0 1) work')
-    opened f =
-        let (b, is) = told_open due e f in
+  module _ (p : Place) {work' : List ℕ} (left : work' ≡ S.table_opened due work) where
+    pub opened : accepted tt ≡ S.opened_of due → OpenTold p (returned (pos 0) (place_at 0 1) work')
+    opened e =
+        let (b, is) = told_open due e in
         let zeros = left ∙ ap (λ (v : Verdict S.Blocks). S.table_opened v work) is in
         let told : OpenedAs due p work (returned (pos 0) (place_at 0 1) work') =
         record { code = ap open_code (sym is); place = ap (λ (v : Verdict S.Blocks). place_opened v p) (sym is); table = left } in
         (told, answers is (refl, refl, zeros))
 
-    pub not_opened_small : {n : ℕ} → r ≡ O.Refused n → n < 2147483648
-    not_opened_small {n} f = (low_open n (refusal_number (opening_row grammar heard (length work)) (told_refused due e f))).1
-
-    pub not_opened : {n : ℕ} {z : ℤ} → r ≡ O.Refused n → z ≡ neg_ℤ (pos n) → OpenTold p (returned (to_z w32 (of_z w32 z)) p work')
-    not_opened {n} f is =
-        let v = told_refused due e f in
+    pub not_opened : {n : ℕ} {z : ℤ} → refused n ≡ S.opened_of due → z ≡ neg_ℤ (pos n) → OpenTold p (returned (to_z w32 (of_z w32 z)) p work')
+    not_opened {n} e is =
+        let v = told_refused due e in
         let row = refusal_number (opening_row grammar heard (length work)) v in
         let same = left ∙ ap (λ (v : Verdict S.Blocks). S.table_opened v work) v in
         let told : OpenedAs due p work (returned (neg_ℤ (pos n)) p work') =
         record { code = ap open_code (sym v); place = ap (λ (v : Verdict S.Blocks). place_opened v p) (sym v); table = left } in
-        rw (back (neg_ℤ (pos n)) (fits_neg n (not_opened_small f)) is) (told, refuses v row (refl, same))
+        rw (back (neg_ℤ (pos n)) (fits_neg n (low_open n row).1) is) (told, refuses v row (refl, same))
 
 -- a call
 module _ (grammar heard : List ℕ) (p : Place) (work out : List ℕ) where
@@ -89,7 +85,7 @@ module _ (grammar heard : List ℕ) (p : Place) (work out : List ℕ) where
   abbrev pub NextTold : S.Search → Returned → List ℕ → Type 0
   NextTold search t out' = CalledAs made p t out' × Next search lent t out'
 
-  module _ {search : S.Search} {a : A.Answer} {work' out' : List ℕ} (called : S.Called search lent (S.left a work' out'))
+  module _ {search : S.Search} {a : A.CallAnswer} {work' out' : List ℕ} (called : S.Called search lent (S.left a work' out'))
       (kept : S.Kept search lent (S.left a work' out')) (is : As made a work' out') (size : length work' ≡ length work) where
     pub call_refusal : {n : ℕ} → a ≡ Refused n → n < 2147483648
     call_refusal {n} f = (low_call n (refused_row called n f)).1
@@ -98,10 +94,10 @@ module _ (grammar heard : List ℕ) (p : Place) (work out : List ℕ) where
     call_reading = reading_below called
 
     -- an answer that is none of a refusal, and a refusal
-    pub answered : (b : A.Answer) → a ≡ b → NextTold search (returned (next_code b) (S.place_after b p) work') out'
+    pub answered : (b : A.CallAnswer) → a ≡ b → NextTold search (returned (next_code b) (S.place_after b p) work') out'
     answered b same =
         let due : b ≡ made.answer = sym same ∙ is.answer in
-        let place : A.Answer → Place = λ x. S.place_after x p in (
+        let place : A.CallAnswer → Place = λ x. S.place_after x p in (
           record { code = ap next_code due; place = ap place due; table = is.table; output = is.output },
           record {
             answer = a;

@@ -10,8 +10,8 @@ use Rattle.traced_readings.specs.Ranked.{Ranked}
 use Rattle.open_listing.specs.Stands.{Standing}
 use Rattle.open_listing.specs.Open.{Blocks, opening, place_after, Search, Lent, lent, left, Called, Kept}
 use Rattle.open_search.specs.declared.Place.{Place}
-use Rattle.open_answer.specs.declared.Answer as A
-use Rattle.open_answer.specs.declared.Answer.TheVariants.{Reading, NoMore, Full, Refused}
+use Rattle.open_answer.specs.Answer as A
+use Rattle.open_answer.specs.Answer.{Reading, NoMore, Full, Refused}
 use Rattle.codes.specs.Demand1.{Demand1}
 
 -- a place
@@ -19,7 +19,7 @@ abbrev pub place_at : ℕ → ℕ → Place
 place_at handed opened = record { handed = handed; opened = opened }
 
 -- the code of an answer: 1 a reading, 0 "no more", 2 "full"
-abbrev pub next_code : A.Answer → ℤ
+abbrev pub next_code : A.CallAnswer → ℤ
 next_code Reading = pos 1
 next_code NoMore = pos 0
 next_code Full = pos 2
@@ -42,7 +42,7 @@ Open grammar heard p work r =
 
 -- One call, and the output afterwards. `Called` has what holds whatever place and table are, `Kept` what holds of those that come back as they were left.
 pub record Next (search : Search) (l : Lent) (r : Returned) (out' : List ℕ) : Type 0 where
-  pub answer : A.Answer
+  pub answer : A.CallAnswer
   pub code_is : r.code ≡ next_code answer
   pub place_is : r.place ≡ place_after answer l.place
   pub called : Called search l (left answer r.work out')

@@ -24,8 +24,8 @@ use Rattle.derivation.proofs.HeardReadings.{heard_one_edge}
 use Rattle.chart.specs.WorkTable.{table_size}
 use Rattle.open_listing.specs.Stands.{TableEntry, entry, Spelled, leaf_spelled, node_spelled, SpelledReading}
 use Rattle.open_listing.specs.Open as S
-use Rattle.open_answer.specs.declared.Answer as A
-use Rattle.open_answer.specs.declared.Answer.TheVariants.{Reading, NoMore, Full, Refused}
+use Rattle.open_answer.specs.Answer as A
+use Rattle.open_answer.specs.Answer.{Reading, NoMore, Full, Refused}
 
 -- answers that hand out nothing
 refusal_reads : (n : ℕ) → Refused n ≡ Reading → ⊥
@@ -40,7 +40,7 @@ nothing_reads e = let z : ◌≡◌ {A = ℕ} 0 1 = cc in omega arith
 -- what is promised of a call in the terms of what was lent
 module _ (search : S.Search) (l : S.Lent) where
   -- a call that is neither refused before the search nor full: what the answer says of the search's table
-  data Case (b : S.Blocks) : A.Answer → Type 0 where
+  data Case (b : S.Blocks) : A.CallAnswer → Type 0 where
     strays : S.Misspelled b.grammar b.heard l.place l.work (S.made search b l) → Case b (Refused 53)
     misses : S.Missing b.grammar b.heard l.place l.work (S.made search b l) → Case b NoMore
     hands : (e : TableEntry) → entry b.grammar b.heard (S.made search b l) (symbol_of 0) 0 (last_place b.heard) l.place.handed ≡ some e
@@ -50,7 +50,7 @@ module _ (search : S.Search) (l : S.Lent) where
       → S.Missing b.grammar b.heard l.place l.work (S.made search b l) → ⊥
   stray_found a m = none≢some (sym m.missing ∙ (a.found m.sought).1)
 
-  same_case : {b : S.Blocks} {a a' : A.Answer} → Case b a → Case b a' → a ≡ a'
+  same_case : {b : S.Blocks} {a a' : A.CallAnswer} → Case b a → Case b a' → a ≡ a'
   same_case (strays x) (strays y) = refl
   same_case (strays x) (misses y) = absurd (stray_found x y)
   same_case (strays x) (hands e f n) = absurd (n x)
@@ -62,10 +62,10 @@ module _ (search : S.Search) (l : S.Lent) where
   same_case (hands e f n) (hands e' f' n') = refl
 
   -- which of all cases a call is
-  data Which : A.Answer → Type 0 where
+  data Which : A.CallAnswer → Type 0 where
     turned : {n : ℕ} → S.asked l ≡ refused n → Which (Refused n)
     fulls : {b : S.Blocks} → S.asked l ≡ accepted b → 256 ≤ l.place.handed → Which Full
-    seeks : {b : S.Blocks} {a : A.Answer} → S.asked l ≡ accepted b → l.place.handed < 256 → Case b a → Which a
+    seeks : {b : S.Blocks} {a : A.CallAnswer} → S.asked l ≡ accepted b → l.place.handed < 256 → Case b a → Which a
 
   spelled_made : {b : S.Blocks} {r : S.Left} (more : S.OneMore search b l r)
       → SpelledReading b.grammar b.heard (S.made search b l) l.place.handed more.tree
@@ -87,7 +87,7 @@ module _ (search : S.Search) (l : S.Lent) where
   clash : {n : ℕ} {b : S.Blocks} → S.asked l ≡ refused n → S.asked l ≡ accepted b → ⊥
   clash e f = refused≢accepted (sym e ∙ f)
 
-  decides : {a b : A.Answer} → Which a → Which b → a ≡ b
+  decides : {a b : A.CallAnswer} → Which a → Which b → a ≡ b
   decides (turned e) (turned f) = let same : _ = sym e ∙ f in cc
   decides (turned e) (fulls f m) = absurd (clash e f)
   decides (turned e) (seeks f below c) = absurd (clash e f)
@@ -103,8 +103,8 @@ module _ (search : S.Search) (l : S.Lent) where
   pub answer_decided : {r r' : S.Left} → S.Called search l r → S.Called search l r' → r.answer ≡ r'.answer
   answer_decided c₁ c₂ = decides (which c₁) (which c₂)
 
-  data Stayed : A.Answer → List ℕ → Type 0 where
-    as_before : {a : A.Answer} {t : List ℕ} → (a ≡ Reading → ⊥) → t ≡ l.work → Stayed a t
+  data Stayed : A.CallAnswer → List ℕ → Type 0 where
+    as_before : {a : A.CallAnswer} {t : List ℕ} → (a ≡ Reading → ⊥) → t ≡ l.work → Stayed a t
     by_search : {b : S.Blocks} {t : List ℕ} → S.asked l ≡ accepted b → t ≡ S.made search b l → Stayed Reading t
 
   stayed : {r : S.Left} → S.Called search l r → Stayed r.answer r.table
@@ -118,7 +118,7 @@ module _ (search : S.Search) (l : S.Lent) where
   pub table_decided : {r r' : S.Left} → S.Called search l r → S.Called search l r' → r.table ≡ r'.table
   table_decided c₁ c₂ = go (stayed c₁) (stayed c₂) (answer_decided c₁ c₂)
     where
-      go : {a b : A.Answer} {t t' : List ℕ} → Stayed a t → Stayed b t' → a ≡ b → t ≡ t'
+      go : {a b : A.CallAnswer} {t t' : List ℕ} → Stayed a t → Stayed b t' → a ≡ b → t ≡ t'
       go (as_before o e) (as_before o' e') same = e ∙ sym e'
       go (as_before o e) (by_search f e') same = absurd (o same)
       go (by_search f e) (as_before o e') same = absurd (o (sym same))
@@ -200,8 +200,8 @@ module _ (search : S.Search) (l : S.Lent) where
   abbrev written : S.Blocks → Tree → List ℕ
   written b z = packed b.grammar b.heard z ++ drop (output_length b.grammar b.heard) l.out
 
-  data Wrote : A.Answer → List ℕ → Type 0 where
-    nothing : {a : A.Answer} {t : List ℕ} → (a ≡ Reading → ⊥) → t ≡ l.out → Wrote a t
+  data Wrote : A.CallAnswer → List ℕ → Type 0 where
+    nothing : {a : A.CallAnswer} {t : List ℕ} → (a ≡ Reading → ⊥) → t ≡ l.out → Wrote a t
     reading : {b : S.Blocks} {t : List ℕ} {z : Tree} → S.asked l ≡ accepted b → Spells b z → t ≡ written b z → Wrote Reading t
 
   wrote : {r : S.Left} → S.Called search l r → Wrote r.answer r.output
@@ -223,7 +223,7 @@ module _ (search : S.Search) (l : S.Lent) where
   pub output_decided : {r r' : S.Left} → S.Called search l r → S.Called search l r' → r.output ≡ r'.output
   output_decided c₁ c₂ = go (wrote c₁) (wrote c₂) (answer_decided search l c₁ c₂)
     where
-      go : {a b : A.Answer} {t t' : List ℕ} → Wrote a t → Wrote b t' → a ≡ b → t ≡ t'
+      go : {a b : A.CallAnswer} {t t' : List ℕ} → Wrote a t → Wrote b t' → a ≡ b → t ≡ t'
       go (nothing o e) (nothing o' e') same = e ∙ sym e'
       go (nothing o e) (reading f s e') same = absurd (o same)
       go (reading f s e) (nothing o e') same = absurd (o (sym same))

@@ -39,8 +39,8 @@ use Rattle.open_listing.specs.Open as S
 use Rattle.open_answer.specs.Model.{Planned, is_reading, hands_out, settled}
 use Rattle.open_search.specs.Model.{Answered, Searched}
 use Rattle.open_search.specs.declared.Place.{Place}
-use Rattle.open_answer.specs.declared.Answer as A
-use Rattle.open_answer.specs.declared.Answer.TheVariants.{Reading, NoMore, Refused}
+use Rattle.open_answer.specs.Answer as A
+use Rattle.open_answer.specs.Answer.{Reading, NoMore, Refused}
 use Rattle.open_listing.proofs.Plans.{plan}
 use Rattle.open_listing.proofs.Stands.{found_entry, no_entry, reading_to, reading_from}
 use Rattle.open_listing.proofs.Standing.{standing}
@@ -86,9 +86,9 @@ module _ (search : S.Search) (grammar heard : List ℕ) (g : Grammar) (h : Heard
   okh = (heard_block_out g.words heard h eh).0
 
   -- whatever the table held
-  module _ (below : p.handed < 256) {found : Bool} (table : List ℕ) {r : A.Answer} {work' out' : List ℕ}
+  module _ (below : p.handed < 256) {found : Bool} (table : List ℕ) {r : A.CallAnswer} {work' out' : List ℕ}
       (answered : Answered found table rules edges (plan g h) p.handed work out r work' out') where
-    nothing_left : (a : A.Answer) → r ≡ a → is_reading a ≡ false → S.Unchanged (S.lent grammar heard p work out) (S.left r work' out')
+    nothing_left : (a : A.CallAnswer) → r ≡ a → is_reading a ≡ false → S.Unchanged (S.lent grammar heard p work out) (S.left r work' out')
     nothing_left a e n = record { table = rw (e, n) at answered.left; output = rw (e, n) at answered.output }
 
     -- the reading that is written, of a derivation that the rank spells
@@ -140,7 +140,7 @@ module _ (search : S.Search) (grammar heard : List ℕ) (g : Grammar) (h : Heard
   -- where the rank was looked for or not, as the test says: whatever the table held
   module _ (below : p.handed < 256) (table : List ℕ) (sought : Bool) (is_sought : sought ≡ true → S.LooksFor g h p work)
       (tests : S.LooksFor g h p work → sought ≡ true)
-      {r : A.Answer} {work' out' : List ℕ}
+      {r : A.CallAnswer} {work' out' : List ℕ}
       (answered : Answered (pick sought (root_found table (layout g h 256) p.handed) true) table rules edges (plan g h) p.handed work out r work' out')
     where
       abbrev price : ℕ
@@ -171,7 +171,7 @@ module _ (search : S.Search) (grammar heard : List ℕ) (g : Grammar) (h : Heard
           untested false e = absurd (false≢true (sym e))
 
   -- of a table in which the rank was looked for
-  module _ (below : p.handed < 256) (table : List ℕ) {r : A.Answer} {work' out' : List ℕ}
+  module _ (below : p.handed < 256) (table : List ℕ) {r : A.CallAnswer} {work' out' : List ℕ}
       (searched : Searched table rules edges (plan g h) p.handed work out r work' out') where
     -- where the ranks of the root are known up to the one that was looked for
     module _ (known : Listed g (heard_edges h) (layout g h 256) p.handed table) where
@@ -195,7 +195,7 @@ module _ (search : S.Search) (grammar heard : List ℕ) (g : Grammar) (h : Heard
             let reads : r ≡ Reading = answer_is below table searched ∙ rw (found, hands) in
             let stays : work' ≡ table = rw reads at searched.left in
             let opened : p.opened ≡ 1 = ap (λ (q : Place). q.opened) left.place in
-            let place : S.place_after r p ≡ S.place_of (suc p.handed) = ap (λ (a : A.Answer). S.place_after a p) reads ∙ rw (add-one p.handed, opened) in
+            let place : S.place_after r p ≡ S.place_of (suc p.handed) = ap (λ (a : A.CallAnswer). S.place_after a p) reads ∙ rw (add-one p.handed, opened) in
             let again : search g h p work ≡ S.table_after search g h left.size (suc p.handed) =
             ap (λ (q : Place). search g h q work) left.place ∙ ap (search g h (S.place_of p.handed)) left.table in
             record {

@@ -14,7 +14,7 @@ use Rattle.derivation.specs.Heard.{output_length}
 use Rattle.chart.specs.WorkTable.{table_size}
 use Rattle.open_listing.specs.Open as S
 use Rattle.open_listing.specs.Open.{opening, calling}
-use Rattle.open_answer.specs.declared.Answer.TheVariants.{Reading, Refused}
+use Rattle.open_answer.specs.Answer.{Reading, Refused}
 
 pub opening_row : (grammar heard : List ℕ) (work : ℕ) → Refuses (GrammarBlockRow ∪ HeardBlockRow ∪ OpenRow) (opening grammar heard work)
 unfolding opening

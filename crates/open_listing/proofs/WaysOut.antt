@@ -35,10 +35,12 @@ use Rattle.open_search.specs.Model.{zeros, Answered, Searched, unchanged, seeks,
 use Rattle.open_listing.specs.Model.{plan_of, next_by, next_of, searched, OpensAs}
 use Rattle.open_search.specs.declared.Place.{Place}
 use Rattle.open_answer.specs.declared.Plan.{Plan}
-use Rattle.open_listing.specs.declared.Opened.{Opened}
-use Rattle.open_listing.specs.declared.Opened.TheVariants as O
-use Rattle.open_answer.specs.declared.Answer as A
-use Rattle.open_answer.specs.declared.Answer.TheVariants.{Full, Refused}
+use Rattle.std.specs.Prelude.{Result, Ok, Err}
+use Rattle.packing.specs.Refusal.{number}
+use Rattle.packing.specs.declared.refusal.Refusal.{Refusal}
+use Rattle.packing.specs.declared.refusal.Refusal.TheVariants.{ListingWork}
+use Rattle.open_answer.specs.Answer as A
+use Rattle.open_answer.specs.Answer.{Full, Refused}
 use Rattle.open_search.proofs.Zeros.{zeros_are, zeros_all}
 use Rattle.open_search.proofs.Searched.{front_fits}
 use Rattle.open_listing.proofs.Plans.{plan, numbers_are, bytes_are}
@@ -230,7 +232,7 @@ module _ {grammar heard : List ℕ} {z : Inputs} {rules edges : List ℕ} (k : R
       sym (ap (λ (x : List ℕ). table_by x edges q p work) k.rules_laid ∙ ap (λ (x : List ℕ). table_by (rules_array m.grammar) x q p work) k.edges_laid
       ∙ ap (λ (x : Plan). table_by (rules_array m.grammar) (edges_array m.heard) x p work) (is ∙ ap plan_of k.sizes))
 
-  pub read_called : {limit : ℕ} → Planned limit q → (p : Place) (work out : List ℕ) {a : A.Answer} {work' out' : List ℕ}
+  pub read_called : {limit : ℕ} → Planned limit q → (p : Place) (work out : List ℕ) {a : A.CallAnswer} {work' out' : List ℕ}
       → As (call_by rules edges q p work out) a work' out'
       → Promised searched (S.lent grammar heard p work out) (S.left a work' out')
   read_called planned p work out s =
@@ -245,7 +247,7 @@ module _ {grammar heard : List ℕ} {z : Inputs} {rules edges : List ℕ} (k : R
 -- and where zeros were lent, the call is a function of what was handed in
 pub read_next : {grammar heard : List ℕ} {z : Inputs} {rules edges : List ℕ}
     (k : ReadOf heard_block grammar heard (replicate 1280 0) (replicate 672 0) z rules edges)
-    (q : Plan) → q ≡ plan_of z → (p : Place) (work out : List ℕ) {a : A.Answer} {work' out' : List ℕ}
+    (q : Plan) → q ≡ plan_of z → (p : Place) (work out : List ℕ) {a : A.CallAnswer} {work' out' : List ℕ}
     → As (call_by rules edges q p work out) a work' out' → As (next_of grammar heard p work out) a work' out'
 read_next {rules = rules} {edges} k q is p work out {a} {work'} {out'} s =
     let m = k.meant in
@@ -270,10 +272,11 @@ inputs_not_called grammar heard p work out e =
     refused_promised searched (S.lent grammar heard p work out) (rw (inputs_refused grammar heard (length work) e))
 
 -- opening
-abbrev OpenedAs : (grammar heard work : List ℕ) → Opened → (work' : List ℕ) → Type 0
+abbrev OpenedAs : (grammar heard work : List ℕ) → Result (Unit {0}) Refusal → (work' : List ℕ) → Type 0
 OpenedAs grammar heard work r work' = OpensAs (S.opening grammar heard (length work)) work r work'
 
-pub inputs_not_opened : (grammar heard work : List ℕ) {n : ℕ} → meant_by heard_block grammar heard ≡ refused n → OpenedAs grammar heard work (O.Refused n) work
+pub inputs_not_opened : (grammar heard work : List ℕ) {r : Refusal} → meant_by heard_block grammar heard ≡ refused (number r)
+    → OpenedAs grammar heard work (Err r) work
 inputs_not_opened grammar heard work e = rw (inputs_refused grammar heard (length work) e) (record { answer = refl; table = refl })
 
 module _ {grammar heard rules₀ edges₀ : List ℕ} {z : Inputs} {rules edges : List ℕ} (k : ReadOf heard_block grammar heard rules₀ edges₀ z rules edges)
@@ -281,12 +284,12 @@ module _ {grammar heard rules₀ edges₀ : List ℕ} {z : Inputs} {rules edges 
   size : r ≡ table_size k.meant.grammar.symbols (last_place k.meant.heard) 256
   size = numbers_are k.meant.grammar k.meant.heard (is ∙ ap plan_of k.sizes) er
 
-  pub not_opened_short : length work < r → OpenedAs grammar heard work (O.Refused 22) work
+  pub not_opened_short : length work < r → OpenedAs grammar heard work (Err ListingWork) work
   not_opened_short short =
       rw (opening_short grammar heard k.meant.grammar k.meant.heard k.grammar_is k.heard_is (length work) (omega (arith, size, short)))
       (record { answer = refl; table = refl })
 
-  pub opened_zeros : r ≤ length work → {work' : List ℕ} → work' ≡ replicate (length work) 0 → OpenedAs grammar heard work O.Opened work'
+  pub opened_zeros : r ≤ length work → {work' : List ℕ} → work' ≡ replicate (length work) 0 → OpenedAs grammar heard work (Ok tt) work'
   opened_zeros room is-zeros =
       rw (opening_accepts grammar heard k.meant.grammar k.meant.heard k.grammar_is k.heard_is (length work) (omega (arith, size, room)))
       (record { answer = refl; table = is-zeros })

@@ -1,13 +1,14 @@
 -- The service's code as functions. Nobody need believe this page: the theorems of proofs/ join it to specs/Open.
-use Rattle.std.specs.Prelude.{◌≡◌, List, ℕ}
+use Rattle.std.specs.Prelude.{◌≡◌, List, ℕ, Result}
 use Rattle.chart.specs.Chart.{lay_out}
 use Rattle.traced_readings.specs.Model.{form_of}
 use Rattle.open_answer.specs.declared.Plan.{Plan}
-use Rattle.open_answer.specs.declared.Answer.TheVariants.{Refused}
+use Rattle.open_answer.specs.Answer.{Refused}
 use Rattle.open_search.specs.Model.{unchanged, table_by, call_by, As}
 use Rattle.open_search.specs.declared.Place.{Place}
 use Rattle.open_listing.specs.Open.{Blocks, opened_of, table_opened, Lent, Left, Called, Kept}
-use Rattle.open_listing.specs.declared.Opened.{Opened}
+use Rattle.packing.specs.Read.{as_verdict}
+use Rattle.packing.specs.declared.refusal.Refusal.{Refusal}
 use Rattle.inputs.specs.Inputs.{Meant, inputs_of, meant_by, rules_array, edges_array}
 use Rattle.inputs.specs.declared.Inputs.{Inputs}
 use Rattle.packing.specs.Meaning.{Grammar, Heard}
@@ -42,6 +43,6 @@ pub record CallsAs (l : Lent) (r : Left) : Type 0 where
   pub computed : As (next_of l.grammar l.heard l.place l.work l.out) r.answer r.table r.output
 
 -- what opening answers and leaves, of what is due
-pub record OpensAs (due : Verdict Blocks) (work : List ℕ) (r : Opened) (work' : List ℕ) : Type 0 where
-  pub answer : r ≡ opened_of due
+pub record OpensAs (due : Verdict Blocks) (work : List ℕ) (r : Result (Unit {0}) Refusal) (work' : List ℕ) : Type 0 where
+  pub answer : as_verdict r ≡ opened_of due
   pub table : work' ≡ table_opened due work

@@ -17,10 +17,8 @@ use Rattle.traced_readings.specs.Ranked.{Ranked}
 pub use Rattle.open_search.specs.Left.{Left, left}
 use Rattle.open_listing.specs.Stands.{TableEntry, front, entry, Found, Over, found_over, found_ranks, SpelledReading, Standing}
 use Rattle.open_search.specs.declared.Place.{Place}
-use Rattle.open_listing.specs.declared.Opened.{Opened}
-use Rattle.open_listing.specs.declared.Opened.TheVariants as O
-use Rattle.open_answer.specs.declared.Answer as A
-use Rattle.open_answer.specs.declared.Answer.TheVariants.{Reading, NoMore, Full, Refused}
+use Rattle.open_answer.specs.Answer as A
+use Rattle.open_answer.specs.Answer.{Reading, NoMore, Full, Refused}
 
 -- a grammar and what was heard, both accepted
 pub record Blocks : Type 0 where
@@ -39,17 +37,16 @@ unfolding opening
 calling grammar heard work out =
     opening grammar heard work then λ b. pick (ltb out (output_length b.grammar b.heard)) (refused 23) (accepted b)
 
--- the code's answer to opening, and the table afterwards, "zeroed on opening"
-abbrev pub opened_of : Verdict Blocks → Opened
-opened_of (accepted b) = O.Opened
-opened_of (refused n) = O.Refused n
+-- the answer to opening, and the table afterwards, "zeroed on opening"
+abbrev pub opened_of : Verdict Blocks → Verdict (Unit {0})
+opened_of v = v then λ b. accepted tt
 
 abbrev pub table_opened : Verdict Blocks → List ℕ → List ℕ
 table_opened (accepted b) work = replicate (length work) 0
 table_opened (refused n) work = work
 
 -- the place afterwards: one more reading was handed out, or nothing was
-abbrev pub place_after : A.Answer → Place → Place
+abbrev pub place_after : A.CallAnswer → Place → Place
 place_after Reading p = record { handed = p.handed + 1; opened = p.opened }
 place_after NoMore p = p
 place_after Full p = p

@@ -10,10 +10,10 @@ use lib.ListN.{length}
 use Rattle.open_search.specs.Model.{first_table, next_table, Answered, Searched, answered_by, seeks, table_by, sought_by, call_by, As}
 use Rattle.open_search.specs.declared.Place.{Place}
 use Rattle.open_answer.specs.declared.Plan.{Plan}
-use Rattle.open_answer.specs.declared.Answer as A
-use Rattle.open_answer.specs.declared.Answer.TheVariants.{Full, Refused}
+use Rattle.open_answer.specs.Answer as A
+use Rattle.open_answer.specs.Answer.{Full, Refused}
 
-answered_as : {found : Bool} {table rules edges : List ℕ} {q : Plan} {x : ℕ} {work out : List ℕ} {r : A.Answer} {work' out' : List ℕ}
+answered_as : {found : Bool} {table rules edges : List ℕ} {q : Plan} {x : ℕ} {work out : List ℕ} {r : A.CallAnswer} {work' out' : List ℕ}
     → Answered found table rules edges q x work out r work' out' → As (answered_by found table rules edges q x work out) r work' out'
 answered_as s = record { answer = s.answer; table = rw s.answer at s.left; output = rw s.answer at s.output }
 
@@ -22,7 +22,7 @@ module _ (rules edges : List ℕ) (q : Plan) (p : Place) (work out : List ℕ) {
   abbrev numbers : ℕ
   numbers = 4 * q.layout.cells * q.layout.ranks
 
-  abbrev Calls : A.Answer → List ℕ → List ℕ → Type 0
+  abbrev Calls : A.CallAnswer → List ℕ → List ℕ → Type 0
   Calls r work' out' = As (call_by rules edges q p work out) r work' out'
 
   pub short_table : length work < n → Calls (Refused 22) work out
@@ -48,7 +48,7 @@ module _ (rules edges : List ℕ) (q : Plan) (p : Place) (work out : List ℕ) {
       more : p.handed < 256 → ltb p.handed 256 ≡ true
       more below = lt-ltb p.handed 256 below
 
-      module _ (below : p.handed < 256) {r : A.Answer} {work' out' : List ℕ} where
+      module _ (below : p.handed < 256) {r : A.CallAnswer} {work' out' : List ℕ} where
         pub unsought_call : seeks q p work ≡ false → Answered true work rules edges q p.handed work out r work' out' → Calls r work' out'
         unfolding call_by sought_by table_by
         unsought_call other s = rw (fits, fits', more below, other) (answered_as s)

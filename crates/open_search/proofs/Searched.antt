@@ -1,13 +1,18 @@
 -- What is left where a rank of the root was looked for: the new table, or the old one. Of a later call it is put back from the journal, of a first
 -- call the front is made zeros again, which it was. Where none was looked for, the table is taken as it is.
 use mathlib.Core.Path.{◌≡◌, refl, sym, ap, ◌∙◌}
-use mathlib.Core.Bool.{Bool, true, false, false≢true}
+use mathlib.Core.Bool.{Bool, true, false, not, false≢true}
 use mathlib.Core.List.{List, ◌++◌}
 use Prim.Native.Nat.{ℕ, ◌-◌, ◌*◌, ◌≤◌}
 use native.Mathlib.Nat.{le_refl}
 use native.Mathlib.Omega.{arith}
 use lib.ListN.{length, take, drop, replicate, take-append-drop}
 use lib.Seq.{length-take-le, take_at, drop_at}
+use Rattle.std.specs.Prelude.{Result, Ok, Err}
+use Rattle.std.specs.Result.{result_eq}
+use Rattle.packing.specs.declared.refusal.Refusal.{Refusal}
+use Rattle.open_answer.specs.declared.Answer as code
+use Rattle.open_answer.specs.declared.Answer.TheVariants as V
 use Rattle.bits.specs.Bits.{pick}
 use Rattle.chart_classes.specs.Classes.{index_numbers}
 use Rattle.chart_index.specs.Build.{make_index}
@@ -16,27 +21,52 @@ use Rattle.chart_search.specs.Search.{next_of_root, keep_of_root}
 use Rattle.chart.specs.Chart.{enumerate, root_found}
 use Rattle.chart_theory.proofs.Plane.{single}
 use Rattle.chart_steps.proofs.Undo.{search_undone}
-use Rattle.open_answer.specs.Model.{Planned, is_reading, settled, output_by}
+use Rattle.open_answer.specs.Model.{Planned, told, is_reading, settled, output_by}
 use Rattle.open_search.specs.Model.{zeros, first_table, next_table, Answered, Searched}
 use Rattle.open_answer.specs.declared.Plan.{Plan}
-use Rattle.open_answer.specs.declared.Answer as A
+use Rattle.open_answer.specs.Answer as A
 use Rattle.open_search.proofs.Zeros.{zeros_are}
+
+-- whether an answer of the code is a reading, as the test has it
+module _ (E : code.Answer → code.Answer → Bool) (F : Refusal → Refusal → Bool) where
+  is_told : (r : Result code.Answer Refusal) → E V.Reading V.Reading ≡ true → E V.NoMore V.Reading ≡ false → E V.Full V.Reading ≡ false
+      → result_eq E F r (Ok V.Reading) ≡ is_reading (told r)
+  is_told (Ok V.Reading) p q l = p
+  is_told (Ok V.NoMore) p q l = q
+  is_told (Ok V.Full) p q l = l
+  is_told (Err e) p q l = refl
+
+  pub reads : (r : Result code.Answer Refusal) {b : Bool} → b ≡ not (result_eq E F r (Ok V.Reading)) → b ≡ false
+      → E V.Reading V.Reading ≡ true → E V.NoMore V.Reading ≡ false → E V.Full V.Reading ≡ false → is_reading (told r) ≡ true
+  reads r e f p q l = go (is_reading (told r)) (sym f ∙ e ∙ ap not (is_told r p q l))
+    where
+      go : (x : Bool) → false ≡ not x → x ≡ true
+      go true e = refl
+      go false e = absurd (false≢true e)
+
+  pub reads_not : (r : Result code.Answer Refusal) {b : Bool} → b ≡ not (result_eq E F r (Ok V.Reading)) → b ≡ true
+      → E V.Reading V.Reading ≡ true → E V.NoMore V.Reading ≡ false → E V.Full V.Reading ≡ false → is_reading (told r) ≡ false
+  reads_not r e f p q l = go (is_reading (told r)) (sym f ∙ e ∙ ap not (is_told r p q l))
+    where
+      go : (x : Bool) → true ≡ not x → x ≡ false
+      go true e = absurd (false≢true (sym e))
+      go false e = refl
 
 -- the new table stays where a reading is handed out, and something else where not
 module _ (table rules edges : List ℕ) (p : Plan) (x : ℕ) (work out : List ℕ) where
-  pub stays : {r : A.Answer} {b : Bool} {t out' : List ℕ} → t ≡ table → r ≡ settled t rules edges p x (root_found t p.layout x)
-      → out' ≡ output_by (is_reading r) t rules p x out → b ≡ is_reading r → b ≡ true → Searched table rules edges p x work out r t out'
-  stays {r} e answer output is reading = record {
+  pub stays : {r : A.CallAnswer} {t out' : List ℕ} → t ≡ table → r ≡ settled t rules edges p x (root_found t p.layout x)
+      → out' ≡ output_by (is_reading r) t rules p x out → is_reading r ≡ true → Searched table rules edges p x work out r t out'
+  stays {r} e answer output reading = record {
     answer = answer ∙ ap (λ (t : List ℕ). settled t rules edges p x (root_found t p.layout x)) e;
-    left = e ∙ rw (← is, reading);
+    left = e ∙ rw reading;
     output = output ∙ ap (λ (t : List ℕ). output_by (is_reading r) t rules p x out) e;
   }
 
-  pub goes_back : {r : A.Answer} {b : Bool} {t work' out' : List ℕ} → t ≡ table → r ≡ settled t rules edges p x (root_found t p.layout x)
-      → out' ≡ output_by (is_reading r) t rules p x out → b ≡ is_reading r → b ≡ false → work' ≡ work → Searched table rules edges p x work out r work' out'
-  goes_back {r} e answer output is reading back = record {
+  pub goes_back : {r : A.CallAnswer} {t work' out' : List ℕ} → t ≡ table → r ≡ settled t rules edges p x (root_found t p.layout x)
+      → out' ≡ output_by (is_reading r) t rules p x out → is_reading r ≡ false → work' ≡ work → Searched table rules edges p x work out r work' out'
+  goes_back {r} e answer output reading back = record {
     answer = answer ∙ ap (λ (t : List ℕ). settled t rules edges p x (root_found t p.layout x)) e;
-    left = back ∙ rw (← is, reading);
+    left = back ∙ rw reading;
     output = output ∙ ap (λ (t : List ℕ). output_by (is_reading r) t rules p x out) e;
   }
 
@@ -56,7 +86,7 @@ module _ (rules edges : List ℕ) (p : Plan) {limit : ℕ} (planned : Planned li
       (omega (arith, few, planned.form.places)) (le_refl _))
 
 -- of a table that is taken as it stands
-pub as_it_stands : (rules edges : List ℕ) (p : Plan) (work out : List ℕ) (x : ℕ) {r : A.Answer} {out' : List ℕ} → r ≡ settled work rules edges p x true
+pub as_it_stands : (rules edges : List ℕ) (p : Plan) (work out : List ℕ) (x : ℕ) {r : A.CallAnswer} {out' : List ℕ} → r ≡ settled work rules edges p x true
     → out' ≡ output_by (is_reading r) work rules p x out → Answered true work rules edges p x work out r work out'
 as_it_stands rules edges p work out x {r} answer output = record { answer = answer; left = either (is_reading r); output = output }
   where

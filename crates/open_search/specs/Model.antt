@@ -1,5 +1,6 @@
 -- A call over arrays as functions. Nobody need believe this page: open_listing's theorems join it to its page Open.
-use Rattle.std.specs.Prelude.{◌≡◌, Bool, true, false, List, [], ◌∷◌, ◌++◌, ℕ, ◌-◌, ◌*◌, eqb, ltb, length, take, drop, replicate}
+use Rattle.std.specs.Prelude.{◌≡◌, Bool, true, false, List, ◌++◌, ℕ, ◌-◌, ◌*◌, ◌==◌, eqb, ltb, length, take, drop, replicate}
+use Rattle.std.specs.List.{list_all}
 use Rattle.bits.specs.Bits.{pick}
 use Rattle.chart_table.specs.declared.Layout.{Layout}
 use Rattle.chart_classes.specs.Classes.{index_numbers}
@@ -8,15 +9,14 @@ use Rattle.chart_search.specs.Search.{next_of_root}
 use Rattle.chart.specs.Chart.{enumerate, root_found}
 use Rattle.open_answer.specs.Model.{is_reading, settled, output_by}
 use Rattle.open_answer.specs.declared.Plan.{Plan}
-use Rattle.open_answer.specs.declared.Answer as A
-use Rattle.open_answer.specs.declared.Answer.TheVariants.{Full, Refused}
+use Rattle.open_answer.specs.Answer as A
+use Rattle.open_answer.specs.Answer.{Full, Refused}
 use Rattle.open_search.specs.Left.{Left, left}
 use Rattle.open_search.specs.declared.Place.{Place}
 
 -- whether all numbers are 0
 unfoldable pub zeros : List ℕ → Bool
-zeros [] = true
-zeros (x ∷ l) = pick (eqb x 0) (zeros l) false
+zeros l = list_all (λ x. x == 0) l
 
 -- the table after the search of a first call, and after that of a later one
 unfoldable pub first_table : (rules edges : List ℕ) → Plan → List ℕ → List ℕ
@@ -31,17 +31,17 @@ next_table rules edges p x work =
     p.layout work x
 
 -- what is left where rank x is there or not, as the first test says: the table and the reading, or everything as it was
-pub record Answered (found : Bool) (table rules edges : List ℕ) (p : Plan) (x : ℕ) (work out : List ℕ) (r : A.Answer) (work' out' : List ℕ) : Type 0 where
+pub record Answered (found : Bool) (table rules edges : List ℕ) (p : Plan) (x : ℕ) (work out : List ℕ) (r : A.CallAnswer) (work' out' : List ℕ) : Type 0 where
   pub answer : r ≡ settled table rules edges p x found
   pub left : work' ≡ pick (is_reading r) table work
   pub output : out' ≡ output_by (is_reading r) table rules p x out
 
 -- in a table in which it was looked for
-abbrev pub Searched : (table rules edges : List ℕ) → Plan → ℕ → (work out : List ℕ) → A.Answer → (work' out' : List ℕ) → Type 0
+abbrev pub Searched : (table rules edges : List ℕ) → Plan → ℕ → (work out : List ℕ) → A.CallAnswer → (work' out' : List ℕ) → Type 0
 Searched table rules edges p x = Answered (root_found table p.layout x) table rules edges p x
 
 -- nothing is changed; rank x decides, where it is there or not, as the first test says
-abbrev pub unchanged : A.Answer → (work out : List ℕ) → Left
+abbrev pub unchanged : A.CallAnswer → (work out : List ℕ) → Left
 unchanged r work out = left r work out
 
 abbrev pub answered_by : Bool → (table rules edges : List ℕ) → Plan → ℕ → (work out : List ℕ) → Left
@@ -72,7 +72,7 @@ call_by rules edges q p work out =
     (pick (ltb p.handed 256) (sought_by rules edges q p work out) (unchanged Full work out)))
 
 -- an answer and what was lent are as this says
-pub record As (l : Left) (r : A.Answer) (work' out' : List ℕ) : Type 0 where
+pub record As (l : Left) (r : A.CallAnswer) (work' out' : List ℕ) : Type 0 where
   pub answer : r ≡ l.answer
   pub table : work' ≡ l.table
   pub output : out' ≡ l.output

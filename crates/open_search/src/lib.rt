@@ -3,11 +3,10 @@
 #![tactic(auto)]
 
 ghost use Rattle.std.specs.Prelude.{◌≡◌, true, ◌-◌, ◌*◌, ◌≤◌, ◌<◌, length, take};
-ghost use Rattle.open_answer.specs.Model.{Planned, is_reading};
+ghost use Rattle.open_answer.specs.Model.{Planned, told};
 ghost use Rattle.open_search.specs.Model as model;
 ghost use Rattle.open_search.specs.Model.{zeros, first_table, next_table, Searched, As, call_by};
 
-use arrays::zero;
 use chart_classes::INDEX_NUMBERS;
 use chart_index::make_index;
 use chart_journal::{JOURNAL_NUMBERS, put_back};
@@ -15,7 +14,7 @@ use chart_search::next_of_root;
 use chart_table::{ENTRY_NUMBERS, Layout, MOST_RANKS};
 use open_answer::{Answer, Plan, as_spelled, settle};
 use packing::format::MAX_SLOTS;
-use packing::refused;
+use packing::refusal::Refusal;
 
 // An open listing's place: how many readings were handed out, and whether it was opened.
 #[repr(C)]
@@ -28,31 +27,12 @@ pub struct Place {
 // The mark of a place that was opened. At a place with another, nothing is looked for: the table is taken as it stands.
 pub const OPENED: u32 = 1;
 
-// Whether a call hands out a reading.
-fn is_reading(r: Answer) -> bool
-    ensures { result ≡ is_reading r }
-{
-    match r {
-        Answer::Reading => true,
-        Answer::NoMore => false,
-        Answer::Full => false,
-        Answer::Refused(_) => false,
-    }
-}
-
 // Whether all numbers are 0.
-fn all_zero(t: &[u32]) -> bool
+#[tactic(auto, unfolding(crate::specs::Model::zeros))]
+fn zeroed(t: &[u32]) -> bool
     ensures { result ≡ zeros t.now }
 {
-    let n = t.len();
-    let mut x: usize = 0;
-    while x < n {
-        if t[x] != 0 {
-            return false;
-        }
-        x += 1;
-    }
-    true
+    t.iter().all(|x| *x == 0)
 }
 
 // Whether a call looks for a rank: at an opened place, and of a first call in a table whose front is zeros.
@@ -63,25 +43,26 @@ fn seeks(plan: Plan, place: Place, work: &[u32]) -> bool
     if place.opened != OPENED {
         return false;
     }
-    if place.handed == 0 {
-        return all_zero(&work[..ENTRY_NUMBERS * plan.layout.cells]);
-    }
-    true
+    place.handed != 0 || zeroed(&work[..ENTRY_NUMBERS * plan.layout.cells])
 }
 
 // The first call: one rank of each cell is looked for, at the table's front, which is zeros. Unless a reading is handed out, it is made zeros again.
-fn first(work: &mut [u32], rules: &[u32], edges: &[u32], plan: Plan, out: &mut [u8]) -> Answer
+fn first(
+    work: &mut [u32],
+    rules: &[u32],
+    edges: &[u32],
+    plan: Plan,
+    out: &mut [u8],
+) -> Result<Answer, Refusal>
     requires { (Planned MAX_SLOTS plan) × (plan.form.size ≤ length out.old) × (4 * plan.layout.cells ≤ length work.old)
         × (zeros (take (4 * plan.layout.cells) work.old) ≡ true) }
     ensures { Searched (first_table rules.now edges.now plan work.old) rules.now edges.now plan 0
-        work.old out.old result work.new out.new }
+        work.old out.old (told result) work.new out.new }
 {
     let front = ENTRY_NUMBERS * plan.layout.cells;
     let single = Layout {
-        symbols: plan.layout.symbols,
-        last: plan.layout.last,
         ranks: 1,
-        cells: plan.layout.cells,
+        ..plan.layout
     };
     chart::enumerate(
         &mut work[..front],
@@ -92,10 +73,9 @@ fn first(work: &mut [u32], rules: &[u32], edges: &[u32], plan: Plan, out: &mut [
         single,
     );
     let answer = settle(&work[..], rules, edges, plan, 0, out);
-    if is_reading(answer) {
-        return answer;
+    if answer != Ok(Answer::Reading) {
+        work[..front].fill(0);
     }
-    zero(&mut work[..front]);
     answer
 }
 
@@ -107,10 +87,10 @@ fn later(
     plan: Plan,
     handed: usize,
     out: &mut [u8],
-) -> Answer
+) -> Result<Answer, Refusal>
     requires { (Planned MAX_SLOTS plan) × (1 ≤ handed) × (handed < plan.layout.ranks) × (plan.form.size ≤ length out.old) }
     ensures { Searched (next_table rules.now edges.now plan (handed - 1) work.old) rules.now
-        edges.now plan handed work.old out.old result work.new out.new }
+        edges.now plan handed work.old out.old (told result) work.new out.new }
 {
     let mut index = [0u32; INDEX_NUMBERS];
     let mut kept = [0u32; JOURNAL_NUMBERS];
@@ -133,10 +113,9 @@ fn later(
         handed - 1,
     );
     let answer = settle(&work[..], rules, edges, plan, handed, out);
-    if is_reading(answer) {
-        return answer;
+    if answer != Ok(Answer::Reading) {
+        put_back(work, &kept);
     }
-    put_back(work, &kept);
     answer
 }
 
@@ -148,26 +127,26 @@ pub fn next_read(
     place: Place,
     work: &mut [u32],
     out: &mut [u8],
-) -> Answer
+) -> Result<Answer, Refusal>
     requires { Planned MAX_SLOTS plan }
-    ensures { As (call_by rules.now edges.now plan place work.old out.old) result work.new
+    ensures { As (call_by rules.now edges.now plan place work.old out.old) (told result) work.new
         out.new }
 {
     if work.len() < chart::table_numbers(plan.layout) {
-        return Answer::Refused(refused::LISTING_WORK);
+        return Err(Refusal::ListingWork);
     }
     if out.len() < plan.form.size {
-        return Answer::Refused(refused::LISTING_OUTPUT);
+        return Err(Refusal::ListingOutput);
     }
     let handed = place.handed as usize;
     if MOST_RANKS <= handed {
-        return Answer::Full;
+        return Ok(Answer::Full);
     }
-    if seeks(plan, place, &work[..]) {
-        if handed == 0 {
-            return first(work, rules, edges, plan, out);
-        }
-        return later(work, rules, edges, plan, handed, out);
+    if !seeks(plan, place, &work[..]) {
+        return as_spelled(&work[..], rules, edges, plan, handed, out);
     }
-    as_spelled(&work[..], rules, edges, plan, handed, out)
+    if handed == 0 {
+        return first(work, rules, edges, plan, out);
+    }
+    later(work, rules, edges, plan, handed, out)
 }

@@ -8,11 +8,10 @@ use native.Mathlib.Omega.{arith}
 use lib.ListN.{length, length-append, length-map}
 use Rattle.packing.specs.Meaning.{MarkedRule, marked, Candidate, candidate, Utterance}
 use Rattle.packing.specs.Parse.{parsed}
-use Rattle.packing.specs.Source.{Source, bytes, numbers, field_at, values}
+use Rattle.packing.specs.Source.{Source, bytes, numbers, field_at, values, Field}
 use Rattle.packing.specs.Grammar.{numbers_per_rule, rules_entries, marked_rules_entries}
 use Rattle.packing.specs.Utterance.{candidates_entries, slots_entries}
 use Rattle.packing.specs.Valid.{InRange, Fits}
-use Rattle.packing.specs.declared.Field.{Field}
 use Rattle.packing.specs.declared.Rule as R
 use Rattle.packing.specs.declared.Rule.TheVariants.{Pair, Word}
 use Rattle.packing.proofs.Entries.{each_right}

@@ -2,9 +2,8 @@
 -- Assumes nothing.
 use mathlib.Core.List.{List, [], ◌∷◌, ◌++◌}
 use Prim.Native.Nat.{ℕ}
-use Rattle.packing.specs.Source.{Entry, entry}
+use Rattle.packing.specs.Source.{Entry, entry, Field}
 use Rattle.packing.specs.Valid.{Each}
-use Rattle.packing.specs.declared.Field.{Field}
 
 module _ (P : Field → ℕ → Type 0) where
   pub each_left : (ds es : List Entry) → Each P (ds ++ es) → Each P ds

@@ -21,3 +21,5 @@ pub mod Redrawn
 pub mod GraphReading
 pub mod GraphTheorems
 pub mod Zeros
+pub mod Numbers
+pub mod Told

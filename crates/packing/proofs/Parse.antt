@@ -1,37 +1,12 @@
--- Inversions: the code's answer tells the parse that it stands for, a parse that succeeded went through both its halves, and
+-- Inversions: a parse that succeeded went through both its halves, and
 -- an accepted verdict passed its test.
 -- Assumes nothing.
-use mathlib.Core.Path.{◌≡◌, refl, sym, ap, ◌∙◌}
+use mathlib.Core.Path.{◌≡◌, refl, ap}
 use mathlib.Core.Bool.{Bool, true, false}
 use Prim.Native.Nat.{ℕ}
 use native.Mathlib.Omega.{arith}
 use Rattle.bits.specs.Bits.{pick}
 use Rattle.packing.specs.Parse.{Parse, parsed, failed, ◌⟫◌, Verdict, accepted, refused, ◌then◌, verdict_of, finish}
-use Rattle.packing.specs.Read.{read_of, refusal_of}
-use Rattle.packing.specs.declared.Cursor.{Cursor}
-use Rattle.packing.specs.declared.Read.{Read}
-use Rattle.packing.specs.declared.Read.TheVariants.{Number, Refused}
-
--- what the code's answer says of the parse
-abbrev parse_of : Read → Parse ℕ
-parse_of (Number v c) = parsed v c.at
-parse_of (Refused n) = failed n
-
-same_parse : (x : Parse ℕ) → x ≡ parse_of (read_of x)
-same_parse (parsed v next) = refl
-same_parse (failed n) = refl
-
-pub number_out : (x : Parse ℕ) {v : ℕ} {c : Cursor} → read_of x ≡ Number v c → x ≡ parsed v c.at
-number_out x e = same_parse x ∙ ap parse_of e
-
-pub refused_out : (x : Parse ℕ) {n : ℕ} → read_of x ≡ Refused n → x ≡ failed n
-refused_out x e = same_parse x ∙ ap parse_of e
-
-pub number_told : (x : Parse ℕ) {r : Read} {v : ℕ} {c : Cursor} → r ≡ read_of x → r ≡ Number v c → x ≡ parsed v c.at
-number_told x e h = number_out x (sym e ∙ h)
-
-pub refusal_told : (x : Parse ℕ) {r : Read} {n m : ℕ} → r ≡ read_of x → r ≡ Refused n → m ≡ refusal_of r → x ≡ failed m
-refusal_told x e h k = refused_out x (sym e ∙ h) ∙ ap failed (sym (k ∙ ap refusal_of h))
 
 failed≢parsed : {A : Type 0} {n next : ℕ} {a : A} → failed n ≡ parsed a next → ⊥
 failed≢parsed e = let z : ◌≡◌ {A = ℕ} 0 1 = cc in omega arith

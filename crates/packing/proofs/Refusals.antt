@@ -16,7 +16,7 @@ use Rattle.bits.specs.Width.{width_of}
 use Rattle.bits.proofs.Num.{field_lt}
 use Rattle.packing.specs.Meaning.{Candidate, candidate, Utterance, word}
 use Rattle.packing.specs.Parse.{Parse, parsed, failed, ◌⟫◌, Verdict, accepted, refused, ◌then◌, verdict_of, finish}
-use Rattle.packing.specs.Source.{Source, bytes, numbers, in_range, field_at, within}
+use Rattle.packing.specs.Source.{Source, bytes, numbers, in_range, field_at, within, Field}
 use Rattle.packing.specs.Alike.{any_like, unlike_from}
 use Rattle.packing.specs.Grammar.{
   rule_kind,
@@ -44,8 +44,6 @@ use Rattle.packing.specs.Utterance.{cost, candidates_from, slot_from, slots_from
 use Rattle.packing.specs.Reading.{rule_number, walk_from, reading_from}
 use Rattle.packing.specs.Conversion.{grammar_to_block, grammar_to_sheet, utterance_to_block, utterance_to_sheet, fitting}
 use Rattle.packing.specs.Rows.{Between, ◌∪◌, GrammarBlockRow, UtteranceBlockRow, ReadingFieldsRow, GrammarSheetRow, UtteranceSheetRow, OutputRow}
-use Rattle.packing.specs.declared.Field.{Field}
-use Rattle.packing.specs.declared.Rule as R
 use Rattle.packing.proofs.Widths.{byte_width}
 
 -- a refusal on the way, and a refusal at the end, is a number of the row

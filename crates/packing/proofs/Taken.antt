@@ -14,9 +14,8 @@ use Rattle.bits.proofs.Num.{field_lt}
 use Rattle.bits.proofs.Holds.{Holds}
 use Rattle.bits.proofs.Fields.{first_field, cons_field}
 use Rattle.packing.specs.Parse.{parsed}
-use Rattle.packing.specs.Source.{Source, bytes, numbers, field_at, Entry, entry, values, flds}
+use Rattle.packing.specs.Source.{Source, bytes, numbers, field_at, Entry, entry, values, flds, Field}
 use Rattle.packing.specs.Valid.{InWidth, Each, Fits}
-use Rattle.packing.specs.declared.Field.{Field}
 use Rattle.packing.proofs.Taking.{field_at_bytes, field_at_bytes_out, field_at_numbers, field_at_numbers_out}
 use Rattle.packing.proofs.Bounds.{field_at_range}
 

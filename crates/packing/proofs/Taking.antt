@@ -9,9 +9,8 @@ use lib.Dec.{ltb, leb}
 use lib.ListN.{length, get_or}
 use Rattle.bits.specs.Bits.{field}
 use Rattle.packing.specs.Parse.{parsed}
-use Rattle.packing.specs.Source.{bytes, numbers, in_range, field_at}
+use Rattle.packing.specs.Source.{bytes, numbers, in_range, field_at, Field}
 use Rattle.packing.specs.Valid.{InRange}
-use Rattle.packing.specs.declared.Field.{Field}
 use Rattle.packing.proofs.Parse.{parsed_else, parsed_then}
 
 pub in_range_out : (f : Field) (u m : ℕ) {v next : ℕ} → in_range f u m ≡ parsed v next → InRange f v × (u ≡ v) × (m ≡ next)

@@ -7,9 +7,8 @@ use Rattle.bits.specs.Width.{width_of}
 use Rattle.bits.specs.Fields.{bits_of_all}
 use Rattle.packing.specs.Meaning.{Grammar, symbol_of, word, MarkedRule, marked, Marked, grammar_of, unmarked}
 use Rattle.packing.specs.Parse.{Parse, parsed, failed, ◌⟫◌, Verdict, accepted, refused, ◌then◌, verdict_of, finish}
-use Rattle.packing.specs.Source.{Source, bytes, numbers, field_at, within, Entry, entry, values, flds}
+use Rattle.packing.specs.Source.{Source, bytes, numbers, field_at, within, Entry, entry, values, flds, Field}
 use Rattle.packing.specs.Alike.{unlike_from}
-use Rattle.packing.specs.declared.Field.{Field}
 use Rattle.packing.specs.declared.Rule as R
 use Rattle.packing.specs.declared.Rule.TheVariants.{Pair, Word}
 

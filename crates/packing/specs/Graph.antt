@@ -4,11 +4,10 @@ use Rattle.bits.specs.Bits.{pack, ended}
 use Rattle.bits.specs.Fields.{bits_of_all}
 use Rattle.packing.specs.Meaning.{Edge, edge, word, Graph}
 use Rattle.packing.specs.Parse.{Parse, parsed, ◌⟫◌, Verdict, finish}
-use Rattle.packing.specs.Source.{Source, bytes, field_at, within, Entry, entry, flds}
+use Rattle.packing.specs.Source.{Source, bytes, field_at, within, Entry, entry, flds, Field}
 use Rattle.packing.specs.Alike.{unlike_from}
 use Rattle.packing.specs.Grammar.{block_kind}
 use Rattle.packing.specs.Utterance.{offered, cost}
-use Rattle.packing.specs.declared.Field.{Field}
 
 -- the fields: P and the number of edges; an edge's places and its word. The start has no range of its own: 51 stands behind the
 -- end. A word need not be above another, so 15 does not come

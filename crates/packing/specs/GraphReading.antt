@@ -6,10 +6,9 @@ use Rattle.bits.specs.Width.{width_of}
 use Rattle.bits.specs.Fields.{bits_of_all}
 use Rattle.packing.specs.Meaning.{Node, by_pair, by_word, GraphReading}
 use Rattle.packing.specs.Parse.{Parse, parsed, failed, ◌⟫◌}
-use Rattle.packing.specs.Source.{bytes, field_at, within, Entry, entry, flds}
+use Rattle.packing.specs.Source.{bytes, field_at, within, Entry, entry, flds, Field}
 use Rattle.packing.specs.Grammar.{block_kind}
 use Rattle.packing.specs.Reading.{reading_weight, rule_number}
-use Rattle.packing.specs.declared.Field.{Field}
 
 -- the fields: the path's edges, at most `most` of them, and an edge's number; any edge number can be read
 abbrev pub path_edges : ℕ → Field

@@ -1,6 +1,7 @@
 pub mod Meaning
 pub mod Parse
 pub mod Source
+pub mod Refusal
 pub mod Read
 pub mod Grammar
 pub mod Utterance

@@ -6,9 +6,8 @@ use Rattle.bits.specs.Width.{width_of}
 use Rattle.bits.specs.Fields.{bits_of_all}
 use Rattle.packing.specs.Meaning.{Reading}
 use Rattle.packing.specs.Parse.{Parse, parsed, ◌⟫◌}
-use Rattle.packing.specs.Source.{Source, bytes, field_at, within, Entry, entry, flds}
+use Rattle.packing.specs.Source.{Source, bytes, field_at, within, Entry, entry, flds, Field}
 use Rattle.packing.specs.Grammar.{block_kind}
-use Rattle.packing.specs.declared.Field.{Field}
 
 -- the fields: n, which is the utterance's, the weight, a rule number; any weight and rule number can be read
 abbrev pub reading_slots : ℕ → Field

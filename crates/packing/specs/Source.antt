@@ -4,7 +4,14 @@ use Rattle.std.specs.Prelude.{List, map, ℕ, ◌+◌, ◌*◌, ltb, leb, length
 use Rattle.bits.specs.Bits.{pick, field}
 use Rattle.bits.specs.Fields.{Fld, fld}
 use Rattle.packing.specs.Parse.{Parse, parsed, failed}
-use Rattle.packing.specs.declared.Field.{Field}
+
+-- a number of a block or a sheet: its width in a block, its least and greatest value, and the refusals of a value below and above
+pub record Field : Type 0 where
+  pub width : ℕ
+  pub least : ℕ
+  pub most : ℕ
+  pub below : ℕ
+  pub above : ℕ
 
 -- a block's bytes, with the refusal of a field that passes their end; or a sheet's numbers
 pub data Source : Type 0 where

@@ -6,9 +6,8 @@ use Rattle.bits.specs.Width.{width_of}
 use Rattle.bits.specs.Fields.{bits_of_all}
 use Rattle.packing.specs.Meaning.{Candidate, candidate, Utterance, word}
 use Rattle.packing.specs.Parse.{Parse, parsed, ◌⟫◌, Verdict, finish}
-use Rattle.packing.specs.Source.{Source, bytes, numbers, field_at, within, Entry, entry, values, flds}
+use Rattle.packing.specs.Source.{Source, bytes, numbers, field_at, within, Entry, entry, values, flds, Field}
 use Rattle.packing.specs.Grammar.{block_kind}
-use Rattle.packing.specs.declared.Field.{Field}
 
 -- the fields: the number of slots, the number of candidates, a word from `least` on, a cost
 abbrev pub slot_count : Field

@@ -3,14 +3,13 @@
 use Rattle.std.specs.Prelude.{◌≡◌, Bool, List, [], ◌∷◌, ℕ, ◌-◌, ◌*◌, ◌^◌, ◌≤◌, ◌<◌, length, get_or}
 use Rattle.bits.specs.Bits.{pick}
 use Rattle.packing.specs.Meaning.{Grammar, MarkedRule, marked, Marked, Utterance, Reading, Graph, Heard, slots, graph, GraphReading}
-use Rattle.packing.specs.Source.{Entry, entry}
+use Rattle.packing.specs.Source.{Entry, entry, Field}
 use Rattle.packing.specs.Alike.{NoTwo, All}
 use Rattle.packing.specs.Grammar.{alike, grammar_entries, marked_alike, marked_entries}
 use Rattle.packing.specs.Utterance.{utterance_entries}
 use Rattle.packing.specs.Reading.{reading_entries}
 use Rattle.packing.specs.Graph.{edges_alike, graph_entries}
 use Rattle.packing.specs.GraphReading.{graph_reading_entries, word_nodes}
-use Rattle.packing.specs.declared.Field.{Field}
 use Rattle.packing.specs.declared.Rule as R
 
 -- a list of bytes

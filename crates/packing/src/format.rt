@@ -1,6 +1,7 @@
 // Document 01's formats, once for readers and writers: ranges, widths and fields of blocks and sheets, and the lengths of the
 // flat arrays that hold what was read. A symbol, a word and a rule's number take `bits::width_below` of how many there are.
-use crate::{Field, refused};
+use crate::Field;
+use crate::refusal::Refusal;
 
 // The greatest of each, under the names of include/spireyerba.h.
 pub const MAX_SYMBOLS: usize = 32; // S
@@ -178,72 +179,72 @@ pub const GRAMMAR_KIND_FIELD: Field = Field {
     width: KIND_WIDTH,
     least: GRAMMAR_BLOCK,
     most: GRAMMAR_BLOCK,
-    below: refused::GRAMMAR_KIND,
-    above: refused::GRAMMAR_KIND,
+    below: Refusal::GrammarKind,
+    above: Refusal::GrammarKind,
 };
 
 pub const MARKED_GRAMMAR_KIND_FIELD: Field = Field {
     width: KIND_WIDTH,
     least: MARKED_GRAMMAR_BLOCK,
     most: MARKED_GRAMMAR_BLOCK,
-    below: refused::GRAMMAR_KIND,
-    above: refused::GRAMMAR_KIND,
+    below: Refusal::GrammarKind,
+    above: Refusal::GrammarKind,
 };
 
 pub const SYMBOLS_FIELD: Field = Field {
     width: SYMBOLS_WIDTH,
     least: 1,
     most: MAX_SYMBOLS as u32,
-    below: refused::GRAMMAR_RANGE,
-    above: refused::GRAMMAR_RANGE,
+    below: Refusal::GrammarRange,
+    above: Refusal::GrammarRange,
 };
 
 pub const WORDS_FIELD: Field = Field {
     width: WORDS_WIDTH,
     least: 1,
     most: MAX_WORDS as u32,
-    below: refused::GRAMMAR_RANGE,
-    above: refused::GRAMMAR_RANGE,
+    below: Refusal::GrammarRange,
+    above: Refusal::GrammarRange,
 };
 
 pub const RULES_FIELD: Field = Field {
     width: RULES_WIDTH,
     least: 1,
     most: MAX_RULES as u32,
-    below: refused::GRAMMAR_RANGE,
-    above: refused::GRAMMAR_RANGE,
+    below: Refusal::GrammarRange,
+    above: Refusal::GrammarRange,
 };
 
 pub const RULE_KIND_FIELD: Field = Field {
     width: RULE_KIND_WIDTH,
     least: PAIR_RULE,
     most: WORD_RULE,
-    below: refused::SHEET_VALUE,
-    above: refused::SHEET_VALUE,
+    below: Refusal::SheetValue,
+    above: Refusal::SheetValue,
 };
 
 pub const WEIGHT_FIELD: Field = Field {
     width: WEIGHT_WIDTH,
     least: 0,
     most: MAX_WEIGHT,
-    below: refused::SHEET_VALUE,
-    above: refused::SHEET_VALUE,
+    below: Refusal::SheetValue,
+    above: Refusal::SheetValue,
 };
 
 pub const NOTHING_FIELD: Field = Field {
     width: 0,
     least: 0,
     most: 0,
-    below: refused::SHEET_VALUE,
-    above: refused::SHEET_VALUE,
+    below: Refusal::SheetValue,
+    above: Refusal::SheetValue,
 };
 
 pub const MARK_FIELD: Field = Field {
     width: MARK_WIDTH,
     least: UNMARKED,
     most: MARKED,
-    below: refused::SHEET_VALUE,
-    above: refused::SHEET_VALUE,
+    below: Refusal::SheetValue,
+    above: Refusal::SheetValue,
 };
 
 // The fields of an utterance that are the same for every grammar: the block's kind, n, a slot's count, a cost.
@@ -251,32 +252,32 @@ pub const UTTERANCE_KIND_FIELD: Field = Field {
     width: KIND_WIDTH,
     least: UTTERANCE_BLOCK,
     most: UTTERANCE_BLOCK,
-    below: refused::UTTERANCE_KIND,
-    above: refused::UTTERANCE_KIND,
+    below: Refusal::UtteranceKind,
+    above: Refusal::UtteranceKind,
 };
 
 pub const SLOTS_FIELD: Field = Field {
     width: SLOTS_WIDTH,
     least: 1,
     most: MAX_SLOTS as u32,
-    below: refused::UTTERANCE_RANGE,
-    above: refused::UTTERANCE_RANGE,
+    below: Refusal::UtteranceRange,
+    above: Refusal::UtteranceRange,
 };
 
 pub const CANDIDATES_FIELD: Field = Field {
     width: CANDIDATES_WIDTH,
     least: 1,
     most: MAX_CANDIDATES as u32,
-    below: refused::UTTERANCE_RANGE,
-    above: refused::UTTERANCE_RANGE,
+    below: Refusal::UtteranceRange,
+    above: Refusal::UtteranceRange,
 };
 
 pub const COST_FIELD: Field = Field {
     width: COST_WIDTH,
     least: 0,
     most: MAX_WEIGHT,
-    below: refused::SHEET_VALUE,
-    above: refused::SHEET_VALUE,
+    below: Refusal::SheetValue,
+    above: Refusal::SheetValue,
 };
 
 // The fields of a reading that are the same for every grammar and utterance: the block's kind, the weight.
@@ -284,16 +285,16 @@ pub const READING_KIND_FIELD: Field = Field {
     width: KIND_WIDTH,
     least: READING_BLOCK,
     most: READING_BLOCK,
-    below: refused::READING_KIND,
-    above: refused::READING_KIND,
+    below: Refusal::ReadingKind,
+    above: Refusal::ReadingKind,
 };
 
 pub const READING_WEIGHT_FIELD: Field = Field {
     width: READING_WEIGHT_WIDTH,
     least: 0,
     most: MAX_READING_WEIGHT,
-    below: refused::READING_WEIGHT,
-    above: refused::READING_WEIGHT,
+    below: Refusal::ReadingWeight,
+    above: Refusal::ReadingWeight,
 };
 
 // The fields of a graph that are the same for every grammar and graph: the block's kind, P, the number of edges, and the place
@@ -302,32 +303,32 @@ pub const GRAPH_KIND_FIELD: Field = Field {
     width: KIND_WIDTH,
     least: GRAPH_BLOCK,
     most: GRAPH_BLOCK,
-    below: refused::UTTERANCE_KIND,
-    above: refused::UTTERANCE_KIND,
+    below: Refusal::UtteranceKind,
+    above: Refusal::UtteranceKind,
 };
 
 pub const PLACES_FIELD: Field = Field {
     width: PLACES_WIDTH,
     least: 2,
     most: MAX_PLACES as u32,
-    below: refused::UTTERANCE_RANGE,
-    above: refused::UTTERANCE_RANGE,
+    below: Refusal::UtteranceRange,
+    above: Refusal::UtteranceRange,
 };
 
 pub const EDGES_FIELD: Field = Field {
     width: EDGES_WIDTH,
     least: 1,
     most: MAX_EDGES as u32,
-    below: refused::UTTERANCE_RANGE,
-    above: refused::UTTERANCE_RANGE,
+    below: Refusal::UtteranceRange,
+    above: Refusal::UtteranceRange,
 };
 
 pub const START_FIELD: Field = Field {
     width: PLACE_WIDTH,
     least: 0,
     most: MAX_PLACE_NUMBER,
-    below: refused::EDGE_PLACES,
-    above: refused::EDGE_PLACES,
+    below: Refusal::EdgePlaces,
+    above: Refusal::EdgePlaces,
 };
 
 // The fields of a graph's reading that are the same for every grammar and graph: the block's kind, an edge's number.
@@ -335,14 +336,14 @@ pub const GRAPH_READING_KIND_FIELD: Field = Field {
     width: KIND_WIDTH,
     least: GRAPH_READING_BLOCK,
     most: GRAPH_READING_BLOCK,
-    below: refused::READING_KIND,
-    above: refused::READING_KIND,
+    below: Refusal::ReadingKind,
+    above: Refusal::ReadingKind,
 };
 
 pub const EDGE_NUMBER_FIELD: Field = Field {
     width: EDGE_NUMBER_WIDTH,
     least: 0,
     most: MAX_EDGE_NUMBER,
-    below: refused::READING_WALK,
-    above: refused::READING_WALK,
+    below: Refusal::ReadingWalk,
+    above: Refusal::ReadingWalk,
 };

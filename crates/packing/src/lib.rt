@@ -2,13 +2,14 @@
 #![tactic(auto)]
 
 pub mod format; // format.rt: ranges, widths and fields of the formats
-pub mod refused; // refused.rt: the numbers of document 01's table
+pub mod refusal; // refusal.rt: the refusals of document 01's table
 
 ghost use Rattle.std.specs.Prelude.{◌≡◌, ◌+◌, ◌*◌, ◌^◌, ◌≤◌, ◌<◌, leb, eqb, length};
 ghost use Rattle.bits.specs.Bits.{field};
 ghost use Rattle.packing.specs.Source.{in_range, field_at};
-ghost use Rattle.packing.specs.Read.{read_of, refusal_of, source_of};
+ghost use Rattle.packing.specs.Read.{field_of, source_of, as_parse};
 
+use crate::refusal::Refusal;
 use bits::MAX_FIELD_WIDTH;
 
 // A symbol of the grammar, V of document 001.
@@ -35,35 +36,16 @@ pub struct Field {
     pub width: usize,
     pub least: u32,
     pub most: u32,
-    pub below: u32,
-    pub above: u32,
+    pub below: Refusal,
+    pub above: Refusal,
 }
 
-// A place: a bit of a block, or a number of a sheet.
+// Where numbers are read from: a block, with the refusal of a field that passes its end, or a sheet. A place is a bit of a block, or a
+// number of a sheet.
 #[derive(Clone, Copy)]
-pub struct Cursor {
-    pub at: usize,
-}
-
-// What reading a field gives: its value and the next place, or the refusal.
-#[derive(Clone, Copy)]
-pub enum Read {
-    Number(u32, Cursor),
-    Refused(u32),
-}
-
-// What a writer answers: the length written, or the refusal.
-#[derive(Clone, Copy)]
-pub enum Written {
-    Length(usize),
-    Refused(u32),
-}
-
-// Where numbers are read from: a block, with the refusal of a field that passes its end, or a sheet.
-#[derive(Clone, Copy)]
-pub enum Source {
-    Block(u32),
-    Sheet,
+pub enum Source<'a> {
+    Block(&'a [u8], Refusal),
+    Sheet(&'a [u32]),
 }
 
 // Whether a block has the `width` bits from bit `at`.
@@ -79,53 +61,47 @@ pub fn is_kind(block: &[u8], kind: u32) -> bool
     requires { 0 < kind }
     ensures { result ≡ eqb (field block.now 0 4) kind }
 {
-    if block.len() == 0 {
+    if block.is_empty() {
         return false;
     }
     bit_reader::read_field(block, 0, format::KIND_WIDTH) == kind
 }
 
-// A value that was found, if it is in its range.
-fn in_range(f: Field, v: u32, next: usize) -> Read
-    ensures { result ≡ read_of (in_range f v next) }
+// A value that was found and the place behind it, if it is in its range.
+#[tactic(auto, unfolding(crate::specs::Source::in_range))]
+fn in_range(f: Field, v: u32, next: usize) -> Result<(u32, usize), Refusal>
+    ensures { as_parse result ≡ in_range (field_of f) v next }
 {
     if f.most < v {
-        return Read::Refused(f.above);
+        return Err(f.above);
     }
     if v < f.least {
-        return Read::Refused(f.below);
+        return Err(f.below);
     }
-    Read::Number(v, Cursor { at: next })
+    Ok((v, next))
 }
 
-// The number at a place of the block or of the sheet, whichever the source is.
-pub fn field_at(src: Source, block: &[u8], sheet: &[u32], at: usize, f: Field) -> Read
-    requires { (at < 2 ^ 32) × (f.width ≤ MAX_FIELD_WIDTH) }
-    ensures { result ≡ read_of (field_at (source_of src block.now sheet.now) at f) }
-{
-    match src {
-        Source::Block(missing) => {
-            let width = f.width;
-            if has_field(block, at, width) {
-                return in_range(f, bit_reader::read_field(block, at, width), at + width);
+impl Source<'_> {
+    // The number at a place, and the next place.
+    #[tactic(auto, unfolding(crate::specs::Source::field_at))]
+    pub fn field_at(self, at: usize, f: Field) -> Result<(u32, usize), Refusal>
+        requires { (at < 2 ^ 32) × (f.width ≤ MAX_FIELD_WIDTH) }
+        ensures { as_parse result ≡ field_at (source_of self.entry) at (field_of f) }
+    {
+        let width = f.width;
+        match self {
+            Source::Block(block, missing) => {
+                if has_field(block, at, width) {
+                    return in_range(f, bit_reader::read_field(block, at, width), at + width);
+                }
+                Err(missing)
             }
-            Read::Refused(missing)
-        }
-        Source::Sheet => {
-            if at < sheet.len() {
-                return in_range(f, sheet[at], at + 1);
+            Source::Sheet(sheet) => {
+                if at < sheet.len() {
+                    return in_range(f, sheet[at], at + 1);
+                }
+                Err(Refusal::SheetCount)
             }
-            Read::Refused(refused::SHEET_COUNT)
         }
-    }
-}
-
-// The refusal's number, and 0 of a value.
-pub fn refusal(r: Read) -> u32
-    ensures { result ≡ refusal_of r }
-{
-    match r {
-        Read::Number(_, _) => 0,
-        Read::Refused(n) => n,
     }
 }

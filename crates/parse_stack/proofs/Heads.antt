@@ -1,5 +1,6 @@
 -- The stack's symbols change where it is written, and the one on top decides which rules fit.
 use mathlib.Core.Path.{◌≡◌, refl, ap}
+use mathlib.Core.Bool.{Bool, true, false}
 use mathlib.Core.List.{List, [], ◌∷◌}
 use mathlib.Core.Option.{none, some}
 use Prim.Native.Nat.{ℕ, zero, suc, ◌+◌, ◌-◌, ◌≤◌, ◌<◌}
@@ -7,11 +8,17 @@ use native.Mathlib.Numerals.{add-one}
 use native.Mathlib.Omega.{arith}
 use lib.ListN.{length, get_or, get_elem?, set, length-set}
 use lib.Seq.{get_or-set_same, get_or-set_other}
+use Rattle.std.specs.Bool.{then_some}
+use Rattle.bits.specs.Bits.{pick}
 use Rattle.packing.specs.Meaning.{symbol_of}
 use Rattle.packing.specs.declared.Sym.{Sym}
 use Rattle.packing.specs.declared.Rule as R
-use Rattle.parse_stack.specs.Stack.{heads_of, with_head, fit_of}
-use Rattle.parse_stack.specs.declared.Fit as F
+use Rattle.parse_stack.specs.Stack.{heads_of, with_head, fit_of, option_of}
+
+-- what a test lets through
+pub chosen : {A : Type 0} (b : Bool) (a : A) → option_of (then_some b a) ≡ pick b (some a) none
+chosen true a = refl
+chosen false a = refl
 
 pub length_heads : (l : List ℕ) (n : ℕ) → length (heads_of l n) ≡ n
 unfolding heads_of
@@ -46,12 +53,12 @@ heads_pushed l (suc n) b c h k =
     )
 
 -- where there is no part, no rule fits
-pub no_part : (rules : List R.Rule) (l : List ℕ) (n r : ℕ) → n ≡ 0 → F.TheVariants.Nothing ≡ fit_of rules (heads_of l n) r
+pub no_part : (rules : List R.Rule) (l : List ℕ) (n r : ℕ) → n ≡ 0 → none ≡ fit_of rules (heads_of l n) r
 unfolding heads_of
 no_part rules l n r e = rw e
 
 -- where there is no rule neither
-pub no_rule : (rules : List R.Rule) (heads : List Sym) (r : ℕ) → get_elem? rules r ≡ none → F.TheVariants.Nothing ≡ fit_of rules heads r
+pub no_rule : (rules : List R.Rule) (heads : List Sym) (r : ℕ) → get_elem? rules r ≡ none → none ≡ fit_of rules heads r
 no_rule rules [] r e = refl
 no_rule rules (A ∷ heads) r e = rw e
 

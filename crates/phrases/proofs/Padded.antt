@@ -1,18 +1,16 @@
--- Padded strings are a right way of keeping strings: words are below 200, so a string comes before none; strings of one length have the
--- same zeros behind them, so these decide nothing; and two strings joined have zeros behind them again. In a table each stands apart from
--- the others. So what the code fills the table with is the first phrase. Assumes nothing.
+-- Padded strings are a right way of keeping strings: words are below 200, so a string comes before none; strings of one length have the same zeros
+-- behind them, so these decide nothing; and two strings joined have zeros behind them again. So what the code fills the table with is the first phrase.
+-- Assumes nothing.
 use mathlib.Core.Path.{◌≡◌, refl, sym, ap, ◌∙◌}
 use mathlib.Core.Bool.{Bool, true, false}
 use mathlib.Core.Option.{Option, none, some}
 use mathlib.Core.List.{List, [], ◌∷◌, ◌++◌, append_assoc}
 use Prim.Native.Nat.{ℕ, zero, suc, ◌+◌, ◌-◌, ◌*◌, ◌≤◌, ◌<◌, compare, Ordering}
-use native.Mathlib.Decide.{dec_lt}
-use native.Mathlib.Nat.{zero-add, suc-add}
 use native.Mathlib.Omega.{arith}
 use borrow.Author.Tests.{ne_eqb, lt-ltb, le-ltb}
 use lib.Dec.{ltb}
-use lib.ListN.{length, get_or, take, drop, replicate, length-append, length-replicate}
-use lib.Seq.{take-nil, take_at, take_all, take-append-le, take-append-add, take-take, length-take-le, drop_at, drop-drop, take-paste, drop-paste, length-paste}
+use lib.ListN.{length, get_or, take, replicate, length-append, length-set}
+use lib.Seq.{take_at, take-append-add, get_or-set_same, get_or-set_other}
 use Rattle.bits.specs.Bits.{pick}
 use Rattle.packing.specs.Meaning.{Grammar, symbol_of}
 use Rattle.packing.specs.Valid.{ValidGrammar}
@@ -125,53 +123,18 @@ module _ (W : ℕ) (w : W ≤ 200) where
   padded_keeps : Keeps W 24 padded Pads
   padded_keeps = record { of_none = λ m. refl; of_word = lesser_word_lem; of_join = lesser_join_lem }
 
--- padded strings in a table of bytes, one after another
-string_fits : (W m : ℕ) (o : Option (List ℕ)) (c : List ℕ) → m ≤ 24 → Each (Sized W m) o → Pads m o c → length c ≡ 24
-string_fits W m none c h s e = ap length e
-string_fits W m (some s) c h (string (l, b)) e = rw e (simp (length-append, length-replicate) (omega arith))
-
-pub take_drop : {A : Type 0} (i n : ℕ) (l : List A) → drop i (take (i + n) l) ≡ take n (drop i l)
-take_drop zero n l = rw zero-add
-take_drop (suc i) n [] = rw suc-add (sym (take-nil n))
-take_drop (suc i) n (x ∷ l) = rw suc-add (take_drop i n l)
-
-module _ (t : List ℕ) (c : ℕ) (x : List ℕ) (room : 24 * c + 24 ≤ length t) (fit : length x ≡ 24) where
-  put_same : string_at (put_string t c x) c ≡ x
-  put_same = rw (
-    take-paste t (24 * c) x 24 (omega arith) (omega arith),
-    drop_at (take (24 * c) t) (take 24 x) (24 * c) (length-take-le (24 * c) t (omega arith)),
-  ) (take_all 24 x (omega arith))
-
-  put_before : (d : ℕ) → d < c → string_at (put_string t c x) d ≡ string_at t d
-  put_before d h =
-      let e = take-paste t (24 * c) x 24 (omega arith) (omega arith) in
-      let l = length-take-le (24 * c) t (omega arith) in
-      ap (drop (24 * d)) (sym (take-take (24 * d + 24) (24 * c + 24) (put_string t c x) (omega arith))
-      ∙ ap (take (24 * d + 24)) e ∙ take-append-le (24 * d + 24) (take (24 * c) t) (take 24 x) (omega arith) ∙ take-take (24 * d + 24) (24 * c) t (omega arith))
-
-  put_behind : (d : ℕ) → c < d → string_at (put_string t c x) d ≡ string_at t d
-  put_behind d h =
-      let n : 24 * c + 24 + (24 * d - (24 * c + 24)) ≡ 24 * d = omega arith in
-      let e = drop-paste t (24 * c) x 24 (omega arith) (omega arith) in
-      take_drop (24 * d) 24 (put_string t c x) ∙ ap (take 24) (ap (λ (m : ℕ). drop m (put_string t c x)) (sym n)
-      ∙ sym (drop-drop (24 * d - (24 * c + 24)) (24 * c + 24) (put_string t c x)) ∙ ap (drop (24 * d - (24 * c + 24))) e
-      ∙ drop-drop (24 * d - (24 * c + 24)) (24 * c + 24) t ∙ ap (λ (m : ℕ). drop m t) n) ∙ sym (take_drop (24 * d) 24 t)
-
-  put_other : (d : ℕ) → (d ≡ c → ⊥) → Dec (d < c) → string_at (put_string t c x) d ≡ string_at t d
-  put_other d e (yes h) = put_before d h
-  put_other d e (no h) = put_behind d (omega arith)
-
-strings_table : (size : ℕ) → Table {T = List ℕ} {K = List ℕ} size (λ t. 24 * size ≤ length t) (λ x. length x ≡ 24) string_at put_string
+-- padded strings in a table
+strings_table : (size : ℕ) → Table {T = List (List ℕ)} {K = List ℕ} size (λ t. size ≤ length t) (λ x. Unit {0}) string_at put_string
 strings_table size = record {
-  stays = λ t c x r l u. rw (length-paste t (24 * c) x 24 (omega arith) (omega arith)) r;
-  same = λ t c x r l u. put_same t c x (omega arith) u;
-  other = λ t c d x r l m u e. put_other t c x (omega arith) u d e (dec_lt d c);
+  stays = λ t c x r l u. rw (length-set t c x) r;
+  same = λ t c x r l u. get_or-set_same t c x [] (omega arith);
+  other = λ t c d x r l m u e. get_or-set_other t c d x [] e;
 }
 
 -- what stands at the cell of the start and length n, after all cells were filled
-pub first_filled : (g : Grammar) → ValidGrammar g → (rule : ℕ → Rule) → Stored g rule → (n : ℕ) → 0 < n → n ≤ 24 → (t : List ℕ) → 768 * n ≤ length t
+pub first_filled : (g : Grammar) → ValidGrammar g → (rule : ℕ → Rule) → Stored g rule → (n : ℕ) → 0 < n → n ≤ 24 → (t : List (List ℕ)) → 32 * n ≤ length t
     → Pads n (first_phrase g n) (string_at (fill put_string (least_at padded rule (length g.rules) string_at) t (32 * n)) (cell_of (symbol_of 0) n))
 first_filled g v rule stored n pos most t room =
     first_phrase_found g v Pads n _
-    (least_filled g v rule stored (padded_keeps g.words (valid_sizes g v).3) (strings_table (32 * n)) (string_fits g.words) n most (omega arith) t
+    (least_filled g v rule stored (padded_keeps g.words (valid_sizes g v).3) (strings_table (32 * n)) (λ m o x few sized codes. tt) n most (omega arith) t
     (omega arith) (symbol_of 0) n (omega arith) pos (omega arith))

@@ -1,7 +1,6 @@
 -- Strings of at most 24 words padded to 24 bytes: the words, then zeros; for none 255, which is no word, then zeros. So the lesser of
 -- two strings of one length is the one whose bytes come first. Nobody need believe this page. Assumes nothing.
-use Rattle.std.specs.Prelude.{List, ◌∷◌, ◌++◌, ℕ, ◌+◌, ◌-◌, ◌*◌, eqb, ltb, get_or, take, replicate}
-use Rattle.std.proofs.Math.Seq.{slice, paste}
+use Rattle.std.specs.Prelude.{List, [], ◌∷◌, ◌++◌, ℕ, ◌-◌, eqb, ltb, get_or, set, take, replicate}
 use Rattle.bits.specs.Bits.{pick}
 use Rattle.phrases.specs.Phrases.{word_order}
 use Rattle.phrases.specs.Enumeration.{is_less}
@@ -30,9 +29,9 @@ lesser_join best a b i =
 abbrev pub padded : Keeping (List ℕ)
 padded = record { missing = no_string; add_word = λ x best. lesser_word best x; add_join = λ i j a b best. lesser_join best a b i }
 
--- cell c of a table of padded strings, one after another, and a string put there
-abbrev pub string_at : List ℕ → ℕ → List ℕ
-string_at t c = slice (24 * c) (24 * c + 24) t
+-- cell c of a table of padded strings, and a string put there
+abbrev pub string_at : List (List ℕ) → ℕ → List ℕ
+string_at t c = get_or t c []
 
-abbrev pub put_string : List ℕ → ℕ → List ℕ → List ℕ
-put_string t c s = paste t (24 * c) s 24
+abbrev pub put_string : List (List ℕ) → ℕ → List ℕ → List (List ℕ)
+put_string t c s = set t c s

@@ -2,7 +2,7 @@
 // before it stands.
 #![tactic(auto)]
 
-ghost use Rattle.std.specs.Prelude.{◌≤◌, ◌<◌};
+ghost use Rattle.std.specs.Prelude.{◌≤◌};
 
 use arrays::number_at;
 use reading_rows::{COUNT_AT, RANK_AT, ROW_NUMBERS, RULES_AT, WEIGHT_AT};
@@ -29,15 +29,12 @@ pub fn print_end(rt: &impl Print) -> io::Result<()> {
 }
 
 // A line: rank, weight, node rule numbers.
-fn print_row(rt: &impl Print, shown: &[u32], k: usize) -> io::Result<()>
-    requires { k < 8 }
-{
-    let at = k * ROW_NUMBERS;
-    print_number(rt, number_at(shown, at + RANK_AT))?;
-    print_further(rt, number_at(shown, at + WEIGHT_AT))?;
-    let count = number_at(shown, at + COUNT_AT);
-    for i in 0..count {
-        print_further(rt, number_at(shown, at + RULES_AT + i))?;
+fn print_row(rt: &impl Print, row: &[u32]) -> io::Result<()> {
+    print_number(rt, number_at(row, RANK_AT))?;
+    print_further(rt, number_at(row, WEIGHT_AT))?;
+    let count = number_at(row, COUNT_AT);
+    for &rule in row.iter().skip(RULES_AT).take(count) {
+        print_further(rt, rule as usize)?;
     }
     print_end(rt)
 }
@@ -46,8 +43,8 @@ fn print_row(rt: &impl Print, shown: &[u32], k: usize) -> io::Result<()>
 pub fn print_rows(rt: &impl Print, shown: &[u32], m: usize) -> io::Result<()>
     requires { m ≤ 8 }
 {
-    for k in 0..m {
-        print_row(rt, shown, k)?;
+    for row in shown.chunks(ROW_NUMBERS).take(m) {
+        print_row(rt, row)?;
     }
     Ok(())
 }

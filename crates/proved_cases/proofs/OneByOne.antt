@@ -88,20 +88,20 @@ use Rattle.chart.specs.Chart.{lay_out, enumerate, root_found, root_spelled, root
 use Rattle.inputs.specs.Inputs.{both, inputs_of, rules_array, edges_array, meant_by}
 use Rattle.traced_readings.specs.Model.{block_at}
 use Rattle.open_listing.specs.Stands.{found_ranks}
+use Rattle.packing.specs.Parse.{Verdict}
 use Rattle.open_listing.specs.Open.{opening, opened_of, place_of, Left, left}
 use Rattle.open_answer.specs.Model.{settled}
 use Rattle.open_search.specs.Model.{zeros, first_table, next_table, answered_by, seeks, table_by, sought_by, call_by}
 use Rattle.open_listing.specs.Model.{plan_of, searched, next_of}
-use Rattle.open_listing.specs.declared.Opened.{Opened}
-use Rattle.open_answer.specs.declared.Answer.TheVariants.{Reading, NoMore}
+use Rattle.open_answer.specs.Answer.{Reading, NoMore}
 use Rattle.proved_cases.specs.Table.{opens, hands, ends, Row, row, AllHold, all, ◌and◌, table_left, output_lent, call_after, ByRank, G, U, walked, N2-cases}
 use Rattle.proved_cases.specs.Table.{first_reading, second_reading, third_reading, fourth_reading, fifth_reading}
 use Rattle.proved_cases.proofs.Rows.{by_rank}
 use Rattle.proved_cases.proofs.Found.{in_turn, found_in_turn}
 use Rattle.proved_cases.proofs.Tables.{after_none, after_first, after_second, after_third, after_fourth, after_fifth}
 
-opens_row : {g : Grammar} {h : Heard} {work : ℕ} {answer : Opened} → opened_of (opening (block_of_grammar g) (block_of_heard g.words h) work) ≡ answer
-    → Row (opens g h work answer)
+opens_row : {g : Grammar} {h : Heard} {work : ℕ} {answer : Verdict (Unit {0})}
+    → opened_of (opening (block_of_grammar g) (block_of_heard g.words h) work) ≡ answer → Row (opens g h work answer)
 opens_row {g} {h} {work} {answer} answers = row (opens g h work answer) answers
 
 -- a call after k readings with this table, and what it answers by the table that its search makes

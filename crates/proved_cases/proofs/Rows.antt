@@ -9,7 +9,7 @@ use lib.Dec.{ltb, lit<}
 use lib.ListN.{length, length-map, get_or, take, drop}
 use borrow.Author.Tests.{ltb-true}
 use Rattle.packing.specs.Meaning.{Grammar, Utterance, Heard}
-use Rattle.packing.specs.Parse.{accepted, refused}
+use Rattle.packing.specs.Parse.{Verdict, accepted, refused}
 use Rattle.packing.specs.Grammar.{grammar_block, block_of_grammar, block_of_marked}
 use Rattle.packing.specs.Utterance.{utterance_block, block_of_utterance}
 use Rattle.packing.specs.Heard.{block_of_heard}
@@ -22,13 +22,10 @@ use Rattle.derivation.specs.Rank.{Rank}
 use Rattle.derivation.specs.HeardList.{derivations, least_derivations}
 use Rattle.derivation.proofs.Lists.{map_at}
 use Rattle.derivation.proofs.HeardTheorems.{finitely_many, least_length, least_element}
-use Rattle.inputs.specs.Answer.{listed_of}
-use Rattle.inputs.specs.declared.Listed.{Listed}
-use Rattle.inputs.specs.declared.Listed.TheVariants.{Found}
+use Rattle.packing.specs.Read.{counted}
 use Rattle.listing.specs.Conditions as Conditions
 use Rattle.listing.specs.Listing.{readings_of, list, output_after}
-use Rattle.checker.specs.declared.Checked.TheVariants.{Passes}
-use Rattle.checker.specs.Check.{checked_of}
+use Rattle.checker.specs.Check.{passed}
 use Rattle.checker.proofs.Theorems as checker
 use Rattle.checker.proofs.Refused.{refusal_judged}
 use Rattle.phrases.specs.Phrases.{Phrase}
@@ -96,12 +93,12 @@ pub lists_row : {g : Grammar} {h : Heard} {wanted : ℕ} {readings : List (List 
     → readings_of wanted (g, h) ≡ readings → Row (lists g h wanted readings)
 lists_row {g} {h} {wanted} {readings} runs e = row (lists g h wanted readings) (runs, by_rank g h wanted readings e)
 
-pub finds_row : {g : Grammar} {h : Heard} {wanted m : ℕ} {bytes : List ℕ} → listed_of (listed_for g h wanted) ≡ Found m
+pub finds_row : {g : Grammar} {h : Heard} {wanted m : ℕ} {bytes : List ℕ} → counted (listed_for g h wanted) ≡ accepted m
     → ((out : List ℕ) → output_after (listed_for g h wanted) out ≡ bytes ++ drop (length bytes) out) → Row (finds g h wanted m bytes)
 finds_row {g} {h} {wanted} {m} {bytes} answers writes = row (finds g h wanted m bytes) (answers, writes)
 
-pub panel_row : {g : Grammar} {h : Heard} {wanted work out : ℕ} {answer : Listed}
-    → listed_of (list Conditions.panel (block_of_grammar g) (block_of_heard g.words h) wanted work out) ≡ answer → Row (panel g h wanted work out answer)
+pub panel_row : {g : Grammar} {h : Heard} {wanted work out : ℕ} {answer : Verdict ℕ}
+    → counted (list Conditions.panel (block_of_grammar g) (block_of_heard g.words h) wanted work out) ≡ answer → Row (panel g h wanted work out answer)
 panel_row {g} {h} {wanted} {work} {out} {answer} answers = row (panel g h wanted work out answer) answers
 
 -- blocks
@@ -126,7 +123,7 @@ are_bytes (x ∷ l) e i = go (ltb x 256) refl e i (are_bytes l)
     go true h e zero more = ltb-true x 256 h
     go true h e (suc i) more = more e i
 
-pub passes_row : {g : Grammar} {h : Heard} {block : List ℕ} → bytes_only block ≡ true → checked_of (checked_for g h block) ≡ Passes → Row (passes g h block)
+pub passes_row : {g : Grammar} {h : Heard} {block : List ℕ} → bytes_only block ≡ true → passed (checked_for g h block) ≡ accepted tt → Row (passes g h block)
 passes_row {g} {h} {block} bytes runs =
     row (passes g h block) (runs, (checker.passes (block_of_grammar g) (block_of_heard g.words h) block (are_bytes block bytes)).0 runs)
 

@@ -18,20 +18,14 @@ use Rattle.chart.specs.WorkTable.{table_size}
 use Rattle.listing.specs.Conditions as Conditions
 use Rattle.listing.specs.Conditions.{library}
 use Rattle.traced_readings.specs.Ranked.{Ranked}
-use Rattle.inputs.specs.Answer.{listed_of}
+use Rattle.packing.specs.Read.{counted}
 use Rattle.listing.specs.Listing.{list, output_after}
-use Rattle.inputs.specs.declared.Listed.{Listed}
-use Rattle.inputs.specs.declared.Listed.TheVariants as L
-use Rattle.inputs.specs.declared.Listed.TheVariants.{Found}
 use Rattle.open_listing.specs.Stands.{found_ranks}
 use Rattle.open_listing.specs.Open.{opening, opened_of, place_of, table_after, Left, left}
 use Rattle.open_listing.specs.Model.{searched, next_of}
-use Rattle.open_listing.specs.declared.Opened.{Opened}
-use Rattle.open_listing.specs.declared.Opened.TheVariants as O
-use Rattle.open_answer.specs.declared.Answer.TheVariants as A
+use Rattle.open_answer.specs.Answer as A
 use Rattle.checker.specs.Judgement.{OfDerivation, Judgement}
-use Rattle.checker.specs.Check.{check, checked_of}
-use Rattle.checker.specs.declared.Checked.TheVariants.{Passes}
+use Rattle.checker.specs.Check.{check, passed}
 use Rattle.phrases.specs.Phrases.{Phrase, Precedes, Least}
 use Rattle.specimen.specs.Specimen as Specimen
 use Rattle.specimen.specs.Specimen.{output_of}
@@ -61,11 +55,11 @@ pub data Case : Type 0 where
   refuses : (g : Grammar) (h : Heard) (block : List ℕ) (number : ℕ) → Case
   specimen : (g : Grammar) (n : ℕ) (out : List ℕ) (found : Option (List ℕ)) (after : List ℕ) → Case
   next : (g : Grammar) (n call : ℕ) (out : List ℕ) (found : Option (List ℕ)) (after : List ℕ) → Case
-  panel : (g : Grammar) (h : Heard) (wanted work out : ℕ) (answer : Listed) → Case
+  panel : (g : Grammar) (h : Heard) (wanted work out : ℕ) (answer : Verdict ℕ) → Case
   ranges : (g : Grammar) (low high : Utterance) (work : ℕ) (answer : Verdict Ranges.Answer) → Case
   margins : (g : Grammar) (u : Utterance) (work out : ℕ) (answer : Verdict (List MarginEntry)) → Case
   office : (sheet block : List ℕ) → Case
-  opens : (g : Grammar) (h : Heard) (work : ℕ) (answer : Opened) → Case
+  opens : (g : Grammar) (h : Heard) (work : ℕ) (answer : Verdict (Unit {0})) → Case
   hands : (g : Grammar) (h : Heard) (k found : ℕ) (reading : List ℕ) → Case
   ends : (g : Grammar) (h : Heard) (k : ℕ) → Case
 
@@ -122,16 +116,16 @@ Holds (grammar g block) = block_of_grammar g ≡ block
 Holds (heard g h block) = block_of_heard g.words h ≡ block
 Holds (lists g h wanted readings) = (listed_for g h wanted ≡ accepted readings) × ByRank g h wanted readings
 Holds (finds g h wanted m bytes) =
-    (listed_of (listed_for g h wanted) ≡ Found m) × ((out : List ℕ) → output_after (listed_for g h wanted) out ≡ bytes ++ drop (length bytes) out)
+    (counted (listed_for g h wanted) ≡ accepted m) × ((out : List ℕ) → output_after (listed_for g h wanted) out ≡ bytes ++ drop (length bytes) out)
 Holds (passes g h block) =
-    (checked_of (checked_for g h block) ≡ Passes) × OfDerivation (block_of_grammar g) (block_of_heard g.words h) block
+    (passed (checked_for g h block) ≡ accepted tt) × OfDerivation (block_of_grammar g) (block_of_heard g.words h) block
 Holds (refuses g h block number) =
     (checked_for g h block ≡ refused number) × Judgement (block_of_grammar g) (block_of_heard g.words h) block (refused number)
 Holds (specimen g n out found after) =
     (Specimen.specimen (block_of_grammar g) n (length out) ≡ accepted found) × (output_of (accepted found) out ≡ after) × LeastOf (Phrase g n) found
 Holds (next g n call out found after) =
     (NextPhrase.next (block_of_grammar g) n call out ≡ accepted found) × (output_of (accepted found) out ≡ after) × LeastOf (Sought g n call out) found
-Holds (panel g h wanted work out answer) = listed_of (list Conditions.panel (block_of_grammar g) (block_of_heard g.words h) wanted work out) ≡ answer
+Holds (panel g h wanted work out answer) = counted (list Conditions.panel (block_of_grammar g) (block_of_heard g.words h) wanted work out) ≡ answer
 Holds (ranges g low high work answer) = (ranges_of g low high work ≡ answer) × Meaning (Answers g low high) answer
 Holds (margins g u work out answer) = (margins_for g u work out ≡ answer) × Meaning (Margins g u) answer
 Holds (office sheet block) =
@@ -238,16 +232,16 @@ N6-cases =
 -- N8's, of the panel: within its limits, and each of its refusals; that 12 slots have 16 readings, among 58,786, the program `cases` says
 abbrev pub N8-cases : List Case
 N8-cases =
-    panel G (slots (U 4)) 16 640 96 (Found 5)
-    ∷ panel G (slots (U 12)) 16 4991 128 (L.Refused 22)
-    ∷ panel G (slots (U 12)) 16 4992 127 (L.Refused 23)
-    ∷ panel G (slots (U 12)) 17 8192 1024 (L.Refused 58)
-    ∷ panel G (slots (U 12)) 256 8192 1024 (L.Refused 58)
-    ∷ panel G (slots (U 12)) 0 8192 1024 (L.Refused 21)
-    ∷ panel G (slots (U 12)) 257 8192 1024 (L.Refused 21)
-    ∷ panel G (slots (U 13)) 16 8192 1024 (L.Refused 57)
-    ∷ panel G (slots (U 13)) 0 8192 1024 (L.Refused 57)
-    ∷ panel G (slots (U 13)) 300 8192 1024 (L.Refused 57)
+    panel G (slots (U 4)) 16 640 96 (accepted 5)
+    ∷ panel G (slots (U 12)) 16 4991 128 (refused 22)
+    ∷ panel G (slots (U 12)) 16 4992 127 (refused 23)
+    ∷ panel G (slots (U 12)) 17 8192 1024 (refused 58)
+    ∷ panel G (slots (U 12)) 256 8192 1024 (refused 58)
+    ∷ panel G (slots (U 12)) 0 8192 1024 (refused 21)
+    ∷ panel G (slots (U 12)) 257 8192 1024 (refused 21)
+    ∷ panel G (slots (U 13)) 16 8192 1024 (refused 57)
+    ∷ panel G (slots (U 13)) 0 8192 1024 (refused 57)
+    ∷ panel G (slots (U 13)) 300 8192 1024 (refused 57)
     ∷ []
 
 -- N11's: words 0 and 1 in slot 0, words 2 and 3 in slot 1, at these costs
@@ -371,8 +365,8 @@ N5-cases =
 -- N2's: of G and U the readings one by one, the first call with ten found ranks, one for each span, and the calls behind it with 2, 1, 1 and 2 more
 abbrev pub N2-cases : List Case
 N2-cases =
-    opens G (slots (U 4)) 10240 O.Opened
-    ∷ opens G (slots (U 4)) 10239 (O.Refused 22)
+    opens G (slots (U 4)) 10240 (accepted tt)
+    ∷ opens G (slots (U 4)) 10239 (refused 22)
     ∷ hands G (slots (U 4)) 0 10 (0x31 ∷ 0x00 ∷ 0x00 ∷ 0x00 ∷ 0xD5 ∷ 0x80 ∷ [])
     ∷ hands G (slots (U 4)) 1 2 (0x31 ∷ 0x00 ∷ 0x00 ∷ 0x00 ∷ 0xD3 ∷ 0x80 ∷ [])
     ∷ hands G (slots (U 4)) 2 1 (0x31 ∷ 0x00 ∷ 0x00 ∷ 0x00 ∷ 0xCD ∷ 0x80 ∷ [])

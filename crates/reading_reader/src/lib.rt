@@ -1,93 +1,68 @@
 // Reading blocks, read up to their last rule number.
 #![tactic(auto)]
 
-ghost use Rattle.std.specs.Prelude.{◌≡◌, ◌-◌, ◌*◌, ◌^◌, ◌≤◌, ◌<◌, length};
+ghost use Rattle.std.specs.Prelude.{◌≡◌, ◌-◌, ◌+◌, ◌*◌, ◌^◌, ◌≤◌, ◌<◌, length, IfOk};
 ghost use Rattle.packing.specs.Source.{bytes, field_at};
-ghost use Rattle.packing.specs.Read.{read_of};
+ghost use Rattle.packing.specs.Read.{field_of, as_parse};
 ghost use Rattle.packing.specs.Reading.{rule_number, reading_from};
-ghost use Rattle.reading_reader.specs.Answer.{answer_of, WalkIn, Near, head_from};
+ghost use Rattle.reading_reader.specs.Answer.{weight_of, WalkIn, Near};
 
 use bits::MAX_FIELD_WIDTH;
 use packing::format::{MAX_RULES, MAX_SLOTS};
-use packing::{Cursor, Field, Read, Source, format, refused};
+use packing::refusal::Refusal;
+use packing::{Field, Source, format};
 
-// The weight and the place behind the fields, or the refusal.
-#[derive(Clone, Copy)]
-pub enum ReadingRead {
-    Reading(u32, Cursor),
-    Refused(u32),
-}
-
-// The number at a place of a reading block.
-pub fn number(block: &[u8], at: usize, f: Field) -> Read
+// The number at a place of a reading block, and the next place.
+#[tactic(auto, using(crate::proofs::Reading::number_next))]
+pub fn number(block: &[u8], at: usize, f: Field) -> Result<(u32, usize), Refusal>
     requires { (at < 2 ^ 32) × (f.width ≤ MAX_FIELD_WIDTH) }
-    ensures { result ≡ read_of (field_at (bytes 31 block.now) at f) }
+    ensures value { as_parse result ≡ field_at (bytes 31 block.now) at (field_of f) }
+    ensures next { IfOk result (λ read. read.1 ≡ at + f.width) }
 {
-    let sheet = [0u32; 1];
-    packing::field_at(Source::Block(refused::READING_END), block, &sheet, at, f)
+    Source::Block(block, Refusal::ReadingEnd).field_at(at, f)
 }
 
-// The kind, n and the weight: the weight, or the refusal.
-fn read_head(block: &[u8], n: usize) -> Read
-    requires { n ≤ MAX_SLOTS }
-    ensures { result ≡ read_of (head_from n block.now) }
-{
-    let kind = number(block, 0, format::READING_KIND_FIELD);
-    let Read::Number(_, c) = kind else {
-        return kind;
-    };
-    let at = c.at;
-    let slots = Field {
-        width: format::SLOTS_WIDTH,
-        least: n as u32,
-        most: n as u32,
-        below: refused::READING_SLOTS,
-        above: refused::READING_SLOTS,
-    };
-    let found = number(block, at, slots);
-    let Read::Number(_, c) = found else {
-        return found;
-    };
-    let at = c.at;
-    number(block, at, format::READING_WEIGHT_FIELD)
-}
-
-// The rule number at a place.
-pub fn read_number(block: &[u8], at: usize, rules: usize) -> Read
+// The rule number at a place, and the next place.
+#[tactic(auto, using(packing::proofs::Widths::byte_width))]
+pub fn read_number(block: &[u8], at: usize, rules: usize) -> Result<(u32, usize), Refusal>
     requires { (at < 2 ^ 32) × (1 ≤ rules) × (rules ≤ MAX_RULES) }
-    ensures { result ≡ read_of (field_at (bytes 31 block.now) at (rule_number rules)) }
+    ensures value { as_parse result ≡ field_at (bytes 31 block.now) at (rule_number rules) }
+    ensures next { IfOk result (λ read. read.1 ≤ at + 8) }
 {
     let f = Field {
         width: bits::width_below(rules),
         least: 0,
         most: format::MAX_RULE_NUMBER,
-        below: refused::READING_WALK,
-        above: refused::READING_WALK,
+        below: Refusal::ReadingWalk,
+        above: Refusal::ReadingWalk,
     };
     number(block, at, f)
 }
 
-// The fields of a reading block of n slots, with the rule numbers at the front of `walk`.
-pub fn read_reading(block: &[u8], n: usize, rules: usize, walk: &mut [u32]) -> ReadingRead
+// The fields of a reading block of n slots, with the rule numbers at the front of `walk`: the weight, and the place behind the fields.
+#[tactic(auto, unfolding(packing::specs::Reading::reading_from))]
+pub fn read_reading(
+    block: &[u8],
+    n: usize,
+    rules: usize,
+    walk: &mut [u32],
+) -> Result<(u32, usize), Refusal>
     requires { (1 ≤ n) × (n ≤ MAX_SLOTS) × (1 ≤ rules) × (rules ≤ MAX_RULES) × (2 * n - 1 ≤ length walk.old) }
-    ensures { (result ≡ answer_of (reading_from n rules block.now))
+    ensures { (as_parse result ≡ weight_of (reading_from n rules block.now))
         × WalkIn (reading_from n rules block.now) walk.new × Near result }
 {
-    let head = read_head(block, n);
-    let Read::Number(weight, c) = head else {
-        return ReadingRead::Refused(packing::refusal(head));
+    let (_, at) = number(block, 0, format::READING_KIND_FIELD)?;
+    let slots = Field {
+        width: format::SLOTS_WIDTH,
+        least: n as u32,
+        most: n as u32,
+        below: Refusal::ReadingSlots,
+        above: Refusal::ReadingSlots,
     };
-    let count = 2 * n - 1;
-    let mut at = c.at;
-    let mut i: usize = 0;
-    while i < count {
-        let found = read_number(block, at, rules);
-        let Read::Number(rule, next) = found else {
-            return ReadingRead::Refused(packing::refusal(found));
-        };
-        walk[i] = rule;
-        at = next.at;
-        i += 1;
+    let (_, at) = number(block, at, slots)?;
+    let (weight, mut at) = number(block, at, format::READING_WEIGHT_FIELD)?;
+    for number in &mut walk[..2 * n - 1] {
+        (*number, at) = read_number(block, at, rules)?;
     }
-    ReadingRead::Reading(weight, Cursor { at: at })
+    Ok((weight, at))
 }

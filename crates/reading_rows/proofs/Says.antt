@@ -8,13 +8,12 @@ use native.Mathlib.Omega.{arith}
 use lib.ListN.{length}
 use Rattle.bits.specs.Fields.{widths}
 use Rattle.packing.specs.Meaning.{Grammar, Utterance, Reading, edges, Graph, slots, graph}
-use Rattle.packing.specs.Parse.{parsed}
+use Rattle.packing.specs.Parse.{parsed, failed}
 use Rattle.packing.specs.Source.{bytes, flds}
 use Rattle.packing.specs.Reading.{reading_from, reading_entries, block_of_reading}
 use Rattle.packing.specs.GraphReading.{GraphHead, graph_head_from, graph_reading_bits, graph_reading_length, trace_entries}
 use Rattle.packing.specs.Flat.{Begins, rule_numbers}
 use Rattle.packing.specs.Valid.{ValidGrammar, ValidUtterance, ValidGraph, ValidReading}
-use Rattle.packing.specs.declared.Cursor.{Cursor}
 use Rattle.packing.proofs.Flat.{rules_of_lem}
 use Rattle.packing.proofs.Taken.{Taken}
 use Rattle.packing.proofs.Whole.{reading_block_back}
@@ -25,54 +24,52 @@ use Rattle.derivation.proofs.Path.{walk_read}
 use Rattle.derivation.proofs.Paths.{walk_path}
 use Rattle.derivation.proofs.Theorems.{nodes, reading_packs}
 use Rattle.derivation.proofs.HeardReadings.{path, graph_reading_packs, packed_length}
-use Rattle.reading_reader.specs.Answer.{answer_of, WalkIn}
-use Rattle.graph_reading_reader.specs.Answer as graph-answer
+use Rattle.reading_reader.specs.Answer.{weight_of, WalkIn}
+use Rattle.graph_reading_reader.specs.Answer.{head_of, to_end}
 use Rattle.graph_reading_reader.specs.declared.GraphHead as heads
-use Rattle.graph_reading_reader.specs.declared.HeadRead as graphs
-use Rattle.reading_reader.specs.declared.ReadingRead as read
 use Rattle.reading_rows.specs.Model.{shape_of, Says, SlotsSay, WalkRead, GraphSays}
 use Rattle.reading_rows.specs.declared.Line.{Line}
 use Rattle.reading_rows.specs.declared.Shape.{Shape}
 
 -- slots: what the reader of reading blocks says
-module _ (s : Shape) (block array : List ℕ) (r : read.ReadingRead) (answered : r ≡ answer_of (reading_from s.last s.rules block))
-    (walked : WalkIn (reading_from s.last s.rules block) array) where
+module _ (s : Shape) (block array : List ℕ) (walked : WalkIn (reading_from s.last s.rules block) array) where
   -- the block is read
   back : (d : Reading) → ValidReading s.rules d → d.slots ≡ s.last → block ≡ block_of_reading s.rules d
       → reading_from s.last s.rules block ≡ parsed d (widths (flds (reading_entries s.rules d)))
   back d ok n b = rw (b, ← n) (reading_block_back s.rules d ok).0
 
-  pub slots_read : {w : ℕ} {c : Cursor} → r ≡ read.TheVariants.Reading w c → SlotsSay s block (record { weight = w; nodes = 2 * s.last - 1 }) array
-  slots_read {w} {c} told d ok n b =
+  pub slots_read : {w at : ℕ} → parsed w at ≡ weight_of (reading_from s.last s.rules block)
+      → SlotsSay s block (record { weight = w; nodes = 2 * s.last - 1 }) array
+  slots_read {w} {at} answered d ok n b =
       let is = back d ok n b in
-      let same : read.TheVariants.Reading w c ≡ answer_of (parsed d (widths (flds (reading_entries s.rules d)))) = sym told ∙ answered ∙ ap answer_of is in
+      let same : parsed w at ≡ parsed d.weight (widths (flds (reading_entries s.rules d))) = rw is at answered in
       let weights : w ≡ d.weight = cc in
       (weights, rw n, rw is at walked)
 
-  pub slots_refused : {w m : ℕ} → r ≡ read.TheVariants.Refused m → SlotsSay s block (record { weight = w; nodes = 2 * s.last - 1 }) array
-  slots_refused {m = m} told d ok n b =
+  pub slots_refused : {w m : ℕ} → failed m ≡ weight_of (reading_from s.last s.rules block)
+      → SlotsSay s block (record { weight = w; nodes = 2 * s.last - 1 }) array
+  slots_refused {m = m} answered d ok n b =
       let is = back d ok n b in
-      let same : read.TheVariants.Refused m ≡ answer_of (parsed d (widths (flds (reading_entries s.rules d)))) = sym told ∙ answered ∙ ap answer_of is in
+      let same : failed m ≡ parsed d.weight (widths (flds (reading_entries s.rules d))) = rw is at answered in
       let z : ◌≡◌ {A = ℕ} 0 1 = cc in
       absurd (omega arith)
 
 -- what the reader of a graph's reading says
-module _ (rules : List ℕ) (s : Shape) (block array : List ℕ) {r : graphs.HeadRead}
-    (answered : r ≡ graph-answer.answer_of s.rules (graph_head_from s.last s.rules block)) where
-  pub graph_refused : {m : ℕ} → r ≡ graphs.TheVariants.Refused m → {line : Line} → GraphSays rules s block line array
-  graph_refused {m} told d l next head nodes =
-      let same : graphs.TheVariants.Refused m ≡ graph-answer.answer_of s.rules (parsed d 34) = sym told ∙ answered
-      ∙ ap (graph-answer.answer_of s.rules) head in
+module _ (rules : List ℕ) (s : Shape) (block array : List ℕ) where
+  pub graph_refused : {m : ℕ} → failed m ≡ to_end s.rules (graph_head_from s.last s.rules block) → {line : Line} → GraphSays rules s block line array
+  graph_refused {m} answered d l next head nodes =
+      let same : failed m ≡ parsed d (graph_reading_bits d.edges s.rules) = rw head at answered in
       let z : ◌≡◌ {A = ℕ} 0 1 = cc in
       absurd (omega arith)
 
-  pub graph_read : {x : heads.GraphHead} {c : Cursor} → r ≡ graphs.TheVariants.Head x c → WalkRead rules s.rules (2 * x.edges - 1) block array
+  pub graph_read : (x : heads.GraphHead) {at : ℕ} → parsed (head_of x) at ≡ to_end s.rules (graph_head_from s.last s.rules block)
+      → WalkRead rules s.rules (2 * x.edges - 1) block array
       → GraphSays rules s block (record { weight = x.weight; nodes = 2 * x.edges - 1 }) array
-  graph_read {x} {c} told walked d l next head nodes =
-      let same : graphs.TheVariants.Head x c ≡ graph-answer.answer_of s.rules (parsed d 34) = sym told ∙ answered
-      ∙ ap (graph-answer.answer_of s.rules) head in
-      let weights : x.weight ≡ d.weight = cc in
-      let edges : x.edges ≡ d.edges = cc in
+  graph_read x {at} answered walked d l next head nodes =
+      let same : parsed (head_of x) at ≡ parsed d (graph_reading_bits d.edges s.rules) = rw head at answered in
+      let one : head_of x ≡ d = cc in
+      let weights : x.weight ≡ d.weight = ap (λ (y : GraphHead). y.weight) one in
+      let edges : x.edges ≡ d.edges = ap (λ (y : GraphHead). y.edges) one in
       (weights, rw edges, walked l next (rw edges nodes))
 
 room : (b n : ℕ) → (b + 7) / 8 ≤ n → b ≤ 8 * n

@@ -42,11 +42,11 @@ module _ (marks walk : List ℕ) where
       f ∙ ap (λ (l : List ℕ). l ++ without_marked marks (get_or walk i 0 ∷ [])) e ∙ sym (without_append marks (take i walk) (get_or walk i 0 ∷ []))
       ∙ ap (without_marked marks) (sym (rw (add-one i) (take-suc walk i 0 h)))
 
-  pub all_shown : (nodes k : ℕ) (shown after : List ℕ) → k ≤ length after → take k after ≡ without_marked marks (take nodes walk)
-      → drop k after ≡ drop k shown → Shown marks (take nodes walk) k shown after
-  all_shown nodes k shown after h e f = (
+  pub all_shown : (k : ℕ) (shown after : List ℕ) → k ≤ length after → take k after ≡ without_marked marks walk
+      → drop k after ≡ drop k shown → Shown marks walk k shown after
+  all_shown k shown after h e f = (
     sym (length-take-le k after h) ∙ ap length e,
-    sym (take-append-drop k after) ∙ ap (λ (l : List ℕ). l ++ drop k after) e ∙ ap (λ (l : List ℕ). without_marked marks (take nodes walk) ++ l) f,
+    sym (take-append-drop k after) ∙ ap (λ (l : List ℕ). l ++ drop k after) e ∙ ap (λ (l : List ℕ). without_marked marks walk ++ l) f,
   )
 
 -- what stands behind stays

@@ -4,15 +4,13 @@
 use Rattle.std.specs.Prelude.{◌≡◌, List, ◌∷◌, ◌++◌, map, ℕ, ◌-◌, ◌*◌, ◌≤◌, min, ltb, length, take, drop, replicate}
 use Rattle.bits.specs.Bits.{pick}
 use Rattle.packing.specs.Meaning.{Grammar, Marked, mark_in, grammar_of, Heard, heard_edges}
-use Rattle.packing.specs.Parse.{accepted, refused}
+use Rattle.packing.specs.Parse.{Verdict, accepted, refused}
 use Rattle.packing.specs.Grammar.{marked_block}
 use Rattle.packing.specs.Heard.{heard_block}
 use Rattle.derivation.specs.Derivation.{Tree, Derivation, weight, walk}
 use Rattle.derivation.specs.Rank.{Number}
 use Rattle.traced_readings.specs.Ranked.{Ranked}
 use Rattle.listing.specs.Conditions.{library, asked_listing}
-use Rattle.inputs.specs.declared.Listed.{Listed}
-use Rattle.inputs.specs.declared.Listed.TheVariants.{Found, Refused}
 use Rattle.office_theory.specs.Matching.{without_marked}
 
 -- a row of 50 numbers: rank, weight, how many rule numbers, these, and zeros; no derivation has more than 47 nodes
@@ -47,8 +45,9 @@ pub record Rows (grammar heard : List ℕ) (found : ℕ) (shown shown' : List �
 abbrev pub room_for : (out shown : ℕ) → ℕ
 room_for out shown = pick (ltb shown 400) 0 out
 
--- eight readings are asked of the listing, for a work table and an output of these lengths; a refusal is the listing's, and changes nothing
-abbrev pub Told : (grammar heard : List ℕ) (work room : ℕ) → Listed → (shown shown' : List ℕ) → Type 0
-Told grammar heard work room (Found found) shown shown' =
+-- what an answer says: eight readings are asked of the listing, for a work table and an output of these lengths; a refusal is the listing's, and changes
+-- nothing
+abbrev pub Told : (grammar heard : List ℕ) (work room : ℕ) → Verdict ℕ → (shown shown' : List ℕ) → Type 0
+Told grammar heard work room (accepted found) shown shown' =
     ((b : Grammar × Heard) × (asked_listing library grammar heard 8 work room ≡ accepted b)) × Rows grammar heard found shown shown'
-Told grammar heard work room (Refused n) shown shown' = (asked_listing library grammar heard 8 work room ≡ refused n) × (shown' ≡ shown)
+Told grammar heard work room (refused n) shown shown' = (asked_listing library grammar heard 8 work room ≡ refused n) × (shown' ≡ shown)

@@ -6,9 +6,9 @@ ghost use Rattle.std.specs.Prelude.{◌≡◌, [], ◌∷◌, ◌++◌, ◌+◌,
 ghost use Rattle.office_theory.specs.Matching.{without_marked};
 ghost use Rattle.reading_rows.specs.Model.{Bounded, size_of, Few, Says, SlotsSay, GraphSays, WalkRead, Shown, RowSays, RowsSay};
 
-use graph_reading_reader::{HeadRead, NodeRead, read_head, read_node};
+use graph_reading_reader::{read_head, read_node};
 use packing::format::{GRAPH_READING_HEAD, UNMARKED, WALK_LENGTH};
-use reading_reader::ReadingRead;
+use reading_reader::read_reading;
 use traced_readings::form_of;
 
 // A row: rank, weight, how many rule numbers, these, and zeros; and the numbers of all rows.
@@ -54,9 +54,8 @@ fn slots_line(block: &[u8], s: Shape, walk: &mut [u32]) -> Line
     ensures { (Few result) × SlotsSay s block.now result walk.new }
 {
     let n = s.last;
-    let read = reading_reader::read_reading(block, n, s.rules, walk);
     let nodes = 2 * n - 1;
-    let ReadingRead::Reading(weight, _) = read else {
+    let Ok((weight, _)) = read_reading(block, n, s.rules, walk) else {
         return Line { weight: 0, nodes };
     };
     Line { weight, nodes }
@@ -69,11 +68,11 @@ fn read_walk(block: &[u8], rules: &[u32], count: usize, nodes: usize, walk: &mut
 {
     let mut at = GRAPH_READING_HEAD;
     for i in 0..nodes {
-        let NodeRead::Node(x, c) = read_node(rules, count, block, at) else {
+        let Some((node, next)) = read_node(rules, count, block, at) else {
             return;
         };
-        walk[i] = x.rule as u32;
-        at = c.at;
+        walk[i] = node.rule as u32;
+        at = next;
     }
 }
 
@@ -82,7 +81,7 @@ fn graph_line(block: &[u8], rules: &[u32], s: Shape, walk: &mut [u32]) -> Line
     requires { (Bounded s) × (WALK_LENGTH ≤ length walk.old) }
     ensures { (Few result) × GraphSays rules.now s block.now result walk.new }
 {
-    let HeadRead::Head(head, _) = read_head(block, s.last, s.rules) else {
+    let Ok((head, _)) = read_head(block, s.last, s.rules) else {
         return Line {
             weight: 0,
             nodes: 0,
@@ -121,15 +120,13 @@ fn show_rule(rule: u32, marks: &[u32], shown: &mut [u32], k: usize) -> usize
 }
 
 // The numbers of a walk whose rules are not marked, in their order at the front of `shown`: how many.
-fn leave_out(walk: &[u32], nodes: usize, marks: &[u32], shown: &mut [u32]) -> usize
-    requires { (nodes ≤ length walk.now) × (nodes ≤ length shown.old) }
-    ensures { (result ≤ nodes) × Shown marks.now (take nodes walk.now) result shown.old shown.new }
+fn leave_out(walk: &[u32], marks: &[u32], shown: &mut [u32]) -> usize
+    requires { length walk.now ≤ length shown.old }
+    ensures { (result ≤ length walk.now) × Shown marks.now walk.now result shown.old shown.new }
 {
-    let mut k: usize = 0;
-    let mut i: usize = 0;
-    while i < nodes {
-        k = show_rule(walk[i], marks, shown, k);
-        i += 1;
+    let mut k = 0;
+    for &rule in walk {
+        k = show_rule(rule, marks, shown, k);
     }
     k
 }
@@ -142,7 +139,7 @@ fn write_row(block: &[u8], rules: &[u32], marks: &[u32], s: Shape, rank: u32, ro
     let mut walk = [0u32; WALK_LENGTH];
     let line = line_of(block, rules, s, &mut walk);
     arrays::zero(row);
-    let count = leave_out(&walk, line.nodes, marks, &mut row[RULES_AT..]);
+    let count = leave_out(&walk[..line.nodes], marks, &mut row[RULES_AT..]);
     arrays::store(row, RANK_AT, rank);
     arrays::store(row, WEIGHT_AT, line.weight);
     arrays::store(row, COUNT_AT, count as u32);

@@ -17,7 +17,7 @@ pub fn reading_length(n: usize, rules: usize) -> usize
     ensures { result ≡ reading_length n rules }
 {
     let width = bits::width_below(rules);
-    (READING_HEAD + (2 * n - 1) * width + 7) / 8
+    (READING_HEAD + (2 * n - 1) * width).div_ceil(8)
 }
 
 // The rule numbers of the first n nodes of a trace, from bit `start`.
@@ -28,11 +28,9 @@ fn write_walk(out: &mut [u8], start: usize, rules: usize, trace: &[u32], n: usiz
 {
     let width = bits::width_below(rules);
     let mut at = start;
-    let mut i: usize = 0;
-    while i < n {
+    for i in 0..n {
         bit_writer::write_field(out, at, width, trace[NUMBERS_PER_NODE * i]);
         at += width;
-        i += 1;
     }
 }
 

@@ -6,9 +6,8 @@ use Prim.Native.Nat.{ℕ}
 use native.Mathlib.Omega.{arith}
 use lib.ListN.{length}
 use Rattle.bits.specs.Bits.{field}
-use Rattle.packing.specs.declared.Field.{Field}
 use Rattle.packing.specs.Meaning.{Grammar, Heard, slots, graph, heard_edges}
-use Rattle.packing.specs.Source.{bytes, Entry, entry}
+use Rattle.packing.specs.Source.{bytes, Entry, entry, Field}
 use Rattle.packing.specs.Reading.{reading_weight, reading_entries, block_of_reading}
 use Rattle.packing.specs.GraphReading.{graph_reading_entries}
 use Rattle.packing.specs.Valid.{ValidGrammar, ValidHeard}

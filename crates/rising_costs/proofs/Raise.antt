@@ -1,10 +1,10 @@
 -- The loop over the nodes of a tree: what remains behind the first i nodes raises the rest of the costs, and weighs the rest.
 use mathlib.Core.Path.{◌≡◌, refl, sym, ap, ◌∙◌}
-use mathlib.Core.List.{List}
+use mathlib.Core.List.{List, ◌∷◌, ◌++◌}
 use mathlib.Core.Option.{some}
-use Prim.Native.Nat.{ℕ, ◌+◌, ◌-◌, ◌*◌, ◌≤◌, ◌<◌}
+use Prim.Native.Nat.{ℕ, ◌+◌, ◌*◌, ◌<◌}
 use native.Mathlib.Omega.{arith}
-use lib.ListN.{length, take, get_or, set}
+use lib.ListN.{length, get_or, set}
 use Rattle.packing.specs.declared.Sym.{Sym}
 use Rattle.packing.specs.declared.Word as W
 use Rattle.packing.specs.declared.Rule.{Rule}
@@ -12,7 +12,7 @@ use Rattle.packing.specs.declared.Rule.TheVariants.{Pair, Word}
 use Rattle.packing.specs.Meaning.{Node}
 use Rattle.packing.specs.Flat.{rule_at, node_by, nodes_in}
 use Rattle.derivation.specs.Derivation.{rule_weight}
-use Rattle.one_best.proofs.Trace.{node_at, rest, rest_more, rest_end}
+use Rattle.one_best.proofs.Trace.{nodes_more, nodes_end}
 use Rattle.rising_costs.specs.Model.{raise_node, node_weight, raise_nodes, nodes_weight}
 
 -- the ways out of one node
@@ -37,33 +37,29 @@ module _ (rules high costs : List ℕ) (r e : ℕ) {x : Rule} {i : ℕ} (found :
       let sum : v + v' ≡ rule_weight (some (rule_at rules r)) + get_or high (4 * e + 3) 0 = rw (own, ev', ec, ek) in
       rw (rule_is, p) (es ∙ rw (ec, ek), sum)
 
-module _ (rules trace : List ℕ) where
-  module _ (n i : ℕ) where
-    module _ (high : List ℕ) (all : List Node) where
-      -- costs so far with the rest raised are those with all raised, and so for weights
-      pub record Remains (costs₀ costs : List ℕ) (own : ℕ) : Type 0 where
-        pub raised : raise_nodes high costs (rest rules trace n i) ≡ raise_nodes high costs₀ all
-        pub weighs : own + nodes_weight rules high (rest rules trace n i) ≡ nodes_weight rules high all
+-- the ways out of the loop over the numbers of a trace
+module _ (rules high : List ℕ) (all : List Node) (costs₀ : List ℕ) where
+  -- costs so far with the nodes of the numbers that are left raised are those with all raised, and so for weights
+  pub record Remains (left costs : List ℕ) (own : ℕ) : Type 0 where
+    pub raised : raise_nodes high costs (nodes_in rules left) ≡ raise_nodes high costs₀ all
+    pub weighs : own + nodes_weight rules high (nodes_in rules left) ≡ nodes_weight rules high all
 
-      pub none_remain : n ≤ i → {costs₀ costs : List ℕ} {own : ℕ} → Remains costs₀ costs own
-          → (costs ≡ raise_nodes high costs₀ all) × (own ≡ nodes_weight rules high all)
-      unfolding raise_nodes nodes_weight
-      none_remain l s =
-          let a = rw (rest_end rules trace n i l) at s.raised in
-          let b = rw (rest_end rules trace n i l) at s.weighs in
-          (a, omega arith)
-
-  pub all_remain : (n : ℕ) (high costs : List ℕ) → Remains n 0 high (nodes_in rules (take (2 * n) trace)) costs costs 0
-  all_remain n high costs =
-      let z : n - 0 ≡ n = omega arith in
-      record { raised = rw z; weighs = rw z (omega arith) }
-
-  pub next_remain : (n i : ℕ) (high : List ℕ) (all : List Node) → i < n → 2 * n ≤ length trace → {costs₀ costs costs' : List ℕ} {own w : ℕ}
-      → costs' ≡ raise_node high costs (node_at rules trace i) → w ≡ node_weight rules high (node_at rules trace i) → Remains n i high all costs₀ costs own
-      → Remains n (i + 1) high all costs₀ costs' (own + w)
+  pub next_remain : (left x left' : List ℕ) {costs costs' : List ℕ} {own w : ℕ} → left ≡ x ++ left' → length x ≡ 2
+      → costs' ≡ raise_node high costs (node_by (rule_at rules (get_or x 0 0)) (get_or x 0 0) (get_or x 1 0))
+      → w ≡ node_weight rules high (node_by (rule_at rules (get_or x 0 0)) (get_or x 0 0) (get_or x 1 0))
+      → Remains left costs own → Remains left' costs' (own + w)
   unfolding raise_nodes nodes_weight
-  next_remain n i high all l h e f s =
-      let more = rest_more rules trace n i l h in
+  next_remain left x left' cut two e f s =
+      let more : nodes_in rules left ≡ node_by (rule_at rules (get_or x 0 0)) (get_or x 0 0) (get_or x 1 0) ∷ nodes_in rules left' =
+      rw cut (nodes_more rules x left' two) in
       let a = rw more at s.raised in
       let b = rw more at s.weighs in
       record { raised = rw e a; weighs = omega arith }
+
+  pub none_remain : (left : List ℕ) {costs : List ℕ} {own : ℕ} → length left < 2 → Remains left costs own
+      → (costs ≡ raise_nodes high costs₀ all) × (own ≡ nodes_weight rules high all)
+  unfolding raise_nodes nodes_weight
+  none_remain left less s =
+      let a = rw (nodes_end rules left less) at s.raised in
+      let b = rw (nodes_end rules left less) at s.weighs in
+      (a, omega arith)

@@ -4,11 +4,13 @@ use mathlib.Core.Path.{◌≡◌, refl, sym, ◌∙◌}
 use mathlib.Core.Bool.{Bool, true, false, ◌&&◌, and-false}
 use mathlib.Core.List.Memᴰ
 use mathlib.Core.List.{List, [], ◌∷◌, ◌++◌}
-use Prim.Native.Nat.{ℕ, suc, ◌+◌, ◌-◌, ◌*◌, ◌≤◌, ◌<◌}
-use native.Mathlib.Numerals.{add-one}
+use Prim.Native.Nat.{ℕ, zero, suc, ◌+◌, ◌*◌, ◌≤◌, ◌<◌}
 use native.Mathlib.Omega.{arith}
 use native.Mathlib.Decide.{ℕ_discrete}
 use lib.Dec.{eqb}
+use Rattle.std.specs.Prelude.{MatchBool}
+use Rattle.std.specs.List.{AllWithin, HoldsAt, range_with_len}
+use Rattle.std.proofs.lemmas.List.FromFn.{length-range_with_len, get_or-range_with_len}
 use lib.ListN.{length, get_or}
 use borrow.Author.Tests.{eq-eqb, ne_eqb}
 use Rattle.packing.specs.declared.Word as W
@@ -24,33 +26,38 @@ use Rattle.heard_reader.specs.Answer.{heard_size}
 use Rattle.heard_reader.specs.declared.HeardSize.{HeardSize}
 use Rattle.rising_costs.specs.Model.{edge_rises, edges_rise, both_rise}
 
--- the ways out of one test
-module _ (low high : List ℕ) (e : ℕ) where
-  pub edge_same : {a b c d p q : ℕ} → a ≡ get_or low (4 * e) 0 → b ≡ get_or high (4 * e) 0 → c ≡ get_or low (4 * e + 2) 0 → d ≡ get_or high (4 * e + 2) 0
-      → p ≡ get_or low (4 * e + 3) 0 → q ≡ get_or high (4 * e + 3) 0 → a ≡ b → c ≡ d → cost_rises p q ≡ edge_rises low high e
-  edge_same ea eb ec ed ep eq h k = rw (eq-eqb _ _ (sym ea ∙ h ∙ eb), eq-eqb _ _ (sym ec ∙ k ∙ ed), ep, eq)
+-- the numbers below n in their order
+place : (n k : ℕ) → k < n → get_or (range_with_len 0 n) k 0 ≡ k
+place n k l = omega (arith, get_or-range_with_len 0 n k 0 l)
 
-  pub other_word : {c d : ℕ} → c ≡ get_or low (4 * e + 2) 0 → d ≡ get_or high (4 * e + 2) 0 → (c ≡ d → ⊥) → false ≡ edge_rises low high e
-  other_word ec ed n = rw (ne_eqb _ _ (λ h. n (ec ∙ h ∙ sym ed)), and-false)
-
-  pub other_place : {a b : ℕ} → a ≡ get_or low (4 * e) 0 → b ≡ get_or high (4 * e) 0 → (a ≡ b → ⊥) → false ≡ edge_rises low high e
-  other_place ea eb n = rw (ne_eqb _ _ (λ h. n (ea ∙ h ∙ sym eb)))
-
--- the turns of the loop
-module _ (low high : List ℕ) (e count : ℕ) where
-  pub none_left : count ≤ e → edges_rise low high e (count - e) ≡ true
+-- edges that all rise, and one among them that does not
+module _ (low high : List ℕ) where
+  all_rise : (e n : ℕ) → ((k : ℕ) → e ≤ k → k < e + n → edge_rises low high k ≡ true) → edges_rise low high e n ≡ true
   unfolding edges_rise
-  none_left h = let z : count - e ≡ 0 = omega arith in rw z
+  all_rise e zero h = refl
+  all_rise e (suc n) h = rw (h e (omega arith) (omega arith)) (all_rise (suc e) n (λ k a b. h k (omega arith) (omega arith)))
 
-  one_more : e < count → edges_rise low high e (count - e) ≡ (edge_rises low high e && edges_rise low high (suc e) (count - suc e))
+  one_falls : (e n k : ℕ) → e ≤ k → k < e + n → edge_rises low high k ≡ false → edges_rise low high e n ≡ false
   unfolding edges_rise
-  one_more h = let z : count - e ≡ suc (count - suc e) = omega arith in rw z
+  one_falls e zero k a b h = absurd (omega arith)
+  one_falls e (suc n) k a b h =
+      here_or_later (ℕ_discrete e k) h (λ q. one_falls (suc e) n k (omega arith) (omega arith) h)
+    where
+      here_or_later : Dec (e ≡ k) → edge_rises low high k ≡ false → ((e ≡ k → ⊥) → edges_rise low high (suc e) n ≡ false)
+          → (edge_rises low high e && edges_rise low high (suc e) n) ≡ false
+      here_or_later (yes p) h later = rw (p, h)
+      here_or_later (no q) h later = rw (later q) (and-false (edge_rises low high e))
 
-  pub falls_here : e < count → edge_rises low high e ≡ false → edges_rise low high e (count - e) ≡ false
-  falls_here h f = one_more h ∙ rw f
-
-  pub rises_here : e < count → edge_rises low high e ≡ true → edges_rise low high (e + 1) (count - (e + 1)) ≡ edges_rise low high e (count - e)
-  rises_here h f = sym (one_more h ∙ rw (f, add-one e))
+  -- what the test of each of the first n edges says
+  pub rise_told : (n : ℕ) {r : Bool}
+      → MatchBool r (AllWithin (λ e. edge_rises low high e ≡ true) (range_with_len 0 n) 0 (length (range_with_len 0 n)))
+      ((k : ℕ) × (k < length (range_with_len 0 n)) × HoldsAt (λ e. edge_rises low high e ≡ false) (range_with_len 0 n) k)
+      → r ≡ edges_rise low high 0 n
+  rise_told n {r = true} h =
+      sym (all_rise 0 n (λ k a b. rw (place n k (omega arith)) at (h k 0 (omega arith) (rw length-range_with_len (omega arith)))))
+  rise_told n {r = false} (k, b, h) =
+      let in' : k < n = rw length-range_with_len at b in
+      sym (one_falls 0 n k (omega arith) (omega arith) (rw (place n k in') at (h 0)))
 
 -- the same test over lists of edges
 unfoldable list_rises : List Edge → List Edge → Bool
@@ -151,14 +158,3 @@ both_rise_lem u v low high a b = go (ℕ_discrete (length u) (length v)) (ℕ_di
     go (yes p) (yes q) =
         rw (eq-eqb (length u) (length v) p, eq-eqb (length (edges u)) (length (edges v)) q)
         (array_rises low high 0 (edges u) (edges v) q (begins_stand (edges u) low a) (begins_stand (edges v) high b) ∙ edges_rises 0 u v p)
-
--- the ways out of the test of both sizes
-module _ (low high : List ℕ) (y z : HeardSize) where
-  pub sizes_same : y.last ≡ z.last → y.edges ≡ z.edges → edges_rise low high 0 y.edges ≡ both_rise low y high z
-  sizes_same p q = rw (eq-eqb _ _ p, eq-eqb _ _ q)
-
-  pub other_count : (y.edges ≡ z.edges → ⊥) → false ≡ both_rise low y high z
-  other_count n = rw (ne_eqb _ _ n, and-false)
-
-  pub other_last : (y.last ≡ z.last → ⊥) → false ≡ both_rise low y high z
-  other_last n = rw (ne_eqb _ _ n)

@@ -16,13 +16,7 @@ use packing::format::{EDGE_COST_AT, EDGE_WORD_AT, NOT_HEARD, NUMBERS_PER_EDGE, N
 fn cost_rises(low: u32, high: u32) -> bool
     ensures { result ≡ cost_rises low high }
 {
-    if high < low {
-        return false;
-    }
-    if low < NOT_HEARD {
-        return high < NOT_HEARD;
-    }
-    true
+    low <= high && (NOT_HEARD <= low || high < NOT_HEARD)
 }
 
 // Whether edge e of two arrays is one edge but for its cost, which rises.
@@ -31,14 +25,11 @@ fn edge_rises(low: &[u32], high: &[u32], e: usize) -> bool
     ensures { result ≡ edge_rises low.now high.now e }
 {
     let at = NUMBERS_PER_EDGE * e;
-    if narrow_at(low, at) == narrow_at(high, at) {
-        let word = at + EDGE_WORD_AT;
-        if narrow_at(low, word) == narrow_at(high, word) {
-            let cost = at + EDGE_COST_AT;
-            return cost_rises(narrow_at(low, cost), narrow_at(high, cost));
-        }
-    }
-    false
+    let word = at + EDGE_WORD_AT;
+    let cost = at + EDGE_COST_AT;
+    narrow_at(low, at) == narrow_at(high, at)
+        && narrow_at(low, word) == narrow_at(high, word)
+        && cost_rises(narrow_at(low, cost), narrow_at(high, cost))
 }
 
 // Whether so are the first `count` edges.
@@ -46,15 +37,7 @@ fn edges_rise(low: &[u32], high: &[u32], count: usize) -> bool
     requires { count < u32_values }
     ensures { result ≡ edges_rise low.now high.now 0 count }
 {
-    let mut e: usize = 0;
-    while e < count {
-        if edge_rises(low, high, e) {
-            e += 1;
-        } else {
-            return false;
-        }
-    }
-    true
+    (0..count).all(|e| edge_rises(low, high, e))
 }
 
 // Whether the edges of two utterances are alike but for their costs, and no cost falls.
@@ -62,12 +45,7 @@ pub fn both_rise(low: &[u32], heard: HeardSize, high: &[u32], other: HeardSize) 
     requires { heard.edges ≤ 168 }
     ensures { result ≡ both_rise low.now heard high.now other }
 {
-    if heard.last == other.last {
-        if heard.edges == other.edges {
-            return edges_rise(low, high, heard.edges);
-        }
-    }
-    false
+    heard.last == other.last && heard.edges == other.edges && edges_rise(low, high, heard.edges)
 }
 
 // Gives the edge of a leaf its high cost. The answer is the node's weight for high costs.
@@ -75,8 +53,7 @@ fn raise_node(rules: &[u32], rule: u32, edge: u32, high: &[u32], costs: &mut [u3
     ensures costs_after { costs.new ≡ raise_node high.now costs.old (node_by (rule_at rules.now rule) rule edge) }
     ensures value { (result ≡ node_weight rules.now high.now (node_by (rule_at rules.now rule) rule edge)) × (result < 8589934592) }
 {
-    let kind = rule_at(rules, wide(rule));
-    match kind {
+    match rule_at(rules, wide(rule)) {
         Rule::Pair(_, _, _, weight) => wide(weight),
         Rule::Word(_, _, weight) => {
             let at = NUMBERS_PER_EDGE * wide(edge) + EDGE_COST_AT;
@@ -87,25 +64,15 @@ fn raise_node(rules: &[u32], rule: u32, edge: u32, high: &[u32], costs: &mut [u3
     }
 }
 
-// Gives the edges of a tree, whose nodes are traced, their high costs. The answer is the tree's weight for high costs.
-pub fn raise_own(
-    rules: &[u32],
-    trace: &[u32],
-    nodes: usize,
-    high: &[u32],
-    costs: &mut [u32],
-) -> usize
-    requires { (nodes ≤ 47) × (2 * nodes ≤ length trace.now) }
-    ensures costs_after { costs.new ≡ raise_nodes high.now costs.old
-        (nodes_in rules.now (take (2 * nodes) trace.now)) }
-    ensures value { result ≡ nodes_weight rules.now high.now (nodes_in rules.now (take (2 * nodes) trace.now)) }
+// Gives the edges of a tree, whose nodes are the trace, their high costs. The answer is the tree's weight for high costs.
+pub fn raise_own(rules: &[u32], trace: &[u32], high: &[u32], costs: &mut [u32]) -> usize
+    requires { length trace.now ≤ 94 }
+    ensures costs_after { costs.new ≡ raise_nodes high.now costs.old (nodes_in rules.now trace.now) }
+    ensures value { result ≡ nodes_weight rules.now high.now (nodes_in rules.now trace.now) }
 {
-    let mut own: usize = 0;
-    let mut i: usize = 0;
-    while i < nodes {
-        let p = NUMBERS_PER_NODE * i;
-        own += raise_node(rules, trace[p], trace[p + 1], high, costs);
-        i += 1;
+    let mut own = 0;
+    for node in trace.chunks_exact(NUMBERS_PER_NODE) {
+        own += raise_node(rules, node[0], node[1], high, costs);
     }
     own
 }

@@ -1,6 +1,6 @@
 -- Two rules are alike where their keys are equal, since each number of a key has room in it. Assumes nothing.
 use mathlib.Core.Path.{◌≡◌, refl, sym, ap, ◌∙◌}
-use mathlib.Core.Bool.{Bool, true, false, ◌&&◌}
+use mathlib.Core.Bool.{Bool, true, false, ◌&&◌, ◌||◌}
 use mathlib.Core.List.{List, [], ◌∷◌, ◌++◌}
 use Prim.Native.Nat.{ℕ, suc, ◌+◌, ◌*◌, ◌≤◌, ◌<◌}
 use native.Mathlib.Nat.{mul-le-mul_right}
@@ -11,18 +11,23 @@ use borrow.Author.Tests.{eq-eqb, ne_eqb}
 use lib.Dec.{eqb}
 use lib.ListN.{length, get_or, take, set}
 use lib.Seq.{take-suc}
+use Rattle.bits.specs.Bits.{pick}
 use Rattle.packing.specs.Grammar.{alike}
 use Rattle.packing.specs.declared.Rule.{Rule}
 use Rattle.packing.proofs.Alike.{like_more, Keyed, keyed_more}
-use Rattle.rules_reader.specs.declared.RuleNumbers.{RuleNumbers}
-use Rattle.rules_reader.specs.Rules.{Sound, rule_by, key_of, among}
+use Rattle.rules_reader.specs.declared.rule.RuleNumbers.{RuleNumbers}
+use Rattle.rules_reader.specs.Rules.{rule_by, key_of, among}
 
-module _ (k : ℕ) (xs : List ℕ) (i : ℕ) (l : i < length xs) where
-  pub among_hit : k ≡ get_or xs i 0 → true ≡ among k (take (i + 1) xs)
-  among_hit e = rw (add-one i, take-suc xs i 0, like_more eqb, eq-eqb k (get_or xs i 0) e)
+either : (a b : Bool) → (a || b) ≡ pick b true a
+either true true = refl
+either true false = refl
+either false true = refl
+either false false = refl
 
-  pub among_miss : {f : Bool} → f ≡ among k (take i xs) → (k ≡ get_or xs i 0 → ⊥) → f ≡ among k (take (i + 1) xs)
-  among_miss p e = rw (add-one i, take-suc xs i 0, like_more eqb, ne_eqb k (get_or xs i 0) e, p)
+-- among one more
+pub among_more : {found : Bool} (k : ℕ) (xs : List ℕ) (i : ℕ) → i < length xs → found ≡ among k (take i xs)
+    → (found || eqb k (get_or xs i 0)) ≡ among k (take (i + 1) xs)
+among_more {found} k xs i l p = rw (add-one i, take-suc xs i 0, like_more eqb, ← p) (either found (eqb k (get_or xs i 0)))
 
 -- numbers joined by a factor are equal where their parts are
 module _ (m a b x y : ℕ) (hx : x < m) (hy : y < m) where
@@ -48,7 +53,7 @@ and_true : (a b : Bool) → b ≡ true → a ≡ (a && b)
 and_true true b e = sym e
 and_true false b e = refl
 
-module _ (n m : RuleNumbers) (sn : Sound n) (sm : Sound m) where
+module _ (n m : RuleNumbers) where
   key_parts : eqb (key_of n) (key_of m)
       ≡ (eqb n.kind m.kind && eqb n.head m.head && eqb n.first m.first && eqb n.second m.second)
   key_parts =
@@ -72,8 +77,8 @@ module _ (n m : RuleNumbers) (sn : Sound n) (sm : Sound m) where
 
 -- the keys of the rules read so far tell which of them a rule is alike
 abbrev pub RulesKeyed : List Rule → List ℕ → Type 0
-RulesKeyed rs keys = Keyed alike rule_by key_of Sound rs keys
+RulesKeyed rs keys = Keyed alike rule_by key_of (λ n. Unit {0}) rs keys
 
-pub rules_keyed_more : (rs : List Rule) (keys : List ℕ) (i k : ℕ) (m : RuleNumbers) → Sound m → i < length keys → k ≡ key_of m → RulesKeyed rs (take i keys)
+pub rules_keyed_more : (rs : List Rule) (keys : List ℕ) (i k : ℕ) (m : RuleNumbers) → i < length keys → k ≡ key_of m → RulesKeyed rs (take i keys)
     → RulesKeyed (rs ++ (rule_by m ∷ [])) (take (i + 1) (set keys i k))
-rules_keyed_more = keyed_more alike rule_by key_of Sound alike_keys
+rules_keyed_more rs keys i k m l e h = keyed_more alike rule_by key_of (λ n. Unit {0}) (λ n m _ _. alike_keys n m) rs keys i k m tt l e h

@@ -1,6 +1,6 @@
 pub mod Taken
+pub mod Reached
 pub mod Fields
 pub mod Keys
-pub mod Marks
-pub mod Turns
 pub mod Filter
+pub mod Turns

@@ -1,48 +1,28 @@
 -- The parts of the reader of a grammar's rules, for the contracts of its functions: document 01, "Packed blocks", and document 02, N5.
 -- Assumes nothing. Nobody need believe this page: no service's promise names it.
-use Rattle.std.specs.Prelude.{◌≡◌, List, [], ◌∷◌, map, Bool, true, ℕ, ◌+◌, ◌-◌, ◌*◌, ◌%◌, ◌≤◌, eqb, length, get_or}
+use Rattle.std.specs.Prelude.{◌≡◌, List, [], ◌∷◌, map, Bool, true, ℕ, ◌+◌, ◌*◌, ◌%◌, ◌≤◌, eqb, length, get_or, Result, Ok, Err}
 use Rattle.packing.specs.Meaning.{MarkedRule, marked, rule_in, mark_in}
 use Rattle.packing.specs.Parse.{Parse, parsed, failed}
 use Rattle.packing.specs.Source.{Source, values}
-use Rattle.packing.specs.Read.{read_of}
+use Rattle.packing.specs.Refusal.{number}
 use Rattle.packing.specs.Alike.{any_like}
 use Rattle.packing.specs.Grammar.{rule_of, rules_from, rules_entries}
 use Rattle.packing.specs.Flat.{Begins, Overlaid}
 use Rattle.packing.specs.declared.Rule as rules
-use Rattle.packing.specs.declared.Read.{Read}
-use Rattle.packing.specs.declared.Read.TheVariants.{Number}
-use Rattle.packing.specs.declared.Read as read
-use Rattle.rules_reader.specs.declared.RuleNumbers.{RuleNumbers}
-use Rattle.rules_reader.specs.declared.RuleRead as rule
-use Rattle.rules_reader.specs.declared.MarkedRead as marking
+use Rattle.packing.specs.declared.refusal.Refusal.{Refusal}
+use Rattle.rules_reader.specs.declared.rule.RuleNumbers.{RuleNumbers}
 
--- the rule of five numbers, and what was read as a rule
+-- the rule of five numbers, and with its mark
 abbrev pub rule_by : RuleNumbers → rules.Rule
 rule_by n = rule_of n.kind n.head n.weight n.first n.second
 
-abbrev pub rule_read : rule.RuleRead → Parse rules.Rule
-rule_read (rule.TheVariants.Rule n c) = parsed (rule_by n) c.at
-rule_read (rule.TheVariants.Refused n) = failed n
+abbrev pub marked_by : RuleNumbers → MarkedRule
+marked_by n = marked (rule_by n) n.mark
 
--- no number of a rule is too great, and a word rule's last is 0
-pub record Sound (n : RuleNumbers) : Type 0 where
-  pub kind : n.kind ≤ 1
-  pub head : n.head ≤ 31
-  pub first : n.first ≤ 199
-  pub second : n.second ≤ 31 * (1 - n.kind)
-
-abbrev pub RuleNear : ℕ → rule.RuleRead → Type 0
-RuleNear most (rule.TheVariants.Rule n c) = Sound n × (c.at ≤ most)
-RuleNear most (rule.TheVariants.Refused n) = Unit {0}
-
--- what was read as a rule with its mark
-abbrev pub marked_read : marking.MarkedRead → Parse MarkedRule
-marked_read (marking.TheVariants.Rule n m c) = parsed (marked (rule_by n) m) c.at
-marked_read (marking.TheVariants.Refused n) = failed n
-
-abbrev pub MarkedNear : ℕ → marking.MarkedRead → Type 0
-MarkedNear most (marking.TheVariants.Rule n m c) = Sound n × (c.at ≤ most)
-MarkedNear most (marking.TheVariants.Refused n) = Unit {0}
+-- a place that was reached is at most `most`
+abbrev pub Near : {A : Type 0} → ℕ → Result (A × ℕ) Refusal → Type 0
+Near most (Ok (a, at)) = at ≤ most
+Near most (Err r) = Unit {0}
 
 -- the numbers in their order
 abbrev pub row : RuleNumbers → List ℕ
@@ -66,22 +46,28 @@ filter_place k = k % 1021
 abbrev pub Filtered : List ℕ → List ℕ → Type 0
 Filtered keys filter = Filters eqb filter_place keys filter
 
--- how many rules were read
-abbrev pub counted : Parse (List MarkedRule) → Parse ℕ
-counted (parsed rs at) = parsed (length rs) at
-counted (failed n) = failed n
+-- the place behind what was read
+abbrev pub place_of : {A : Type 0} → Parse A → Parse ℕ
+place_of (parsed a at) = parsed at at
+place_of (failed n) = failed n
 
--- the rules' numbers laid over the front of the one array, and their marks at the front of the other
-abbrev pub RowsIn : ℕ → ℕ → Parse (List MarkedRule) → List ℕ → List ℕ → List ℕ → Type 0
-RowsIn S W (parsed rs at) before rules marks = Overlaid (values (rules_entries S W (map rule_in rs))) before rules × Begins (map mark_in rs) marks
-RowsIn S W (failed n) before rules marks = Unit {0}
+-- a place that was reached
+abbrev pub reached : Result ℕ Refusal → Parse ℕ
+reached (Ok at) = parsed at at
+reached (Err r) = failed (number r)
 
-abbrev pub CountNear : ℕ → ℕ → Read → Type 0
-CountNear count most (Number v c) = (v ≡ count) × (c.at ≤ most)
-CountNear count most (read.TheVariants.Refused n) = Unit {0}
+-- R rules, with their numbers laid over the front of the one array, and their marks at the front of the other
+abbrev pub RowsIn : (S W R : ℕ) → Parse (List MarkedRule) → List ℕ → List ℕ → List ℕ → Type 0
+RowsIn S W R (parsed rs at) before rules marks =
+    (length rs ≡ R) × Overlaid (values (rules_entries S W (map rule_in rs))) before rules × Begins (map mark_in rs) marks
+RowsIn S W R (failed n) before rules marks = Unit {0}
+
+abbrev pub PlaceNear : ℕ → Result ℕ Refusal → Type 0
+PlaceNear most (Ok at) = at ≤ most
+PlaceNear most (Err r) = Unit {0}
 
 -- what reading the rules from a place promises of its answer and of the arrays
-pub record RulesTold (marking : Bool) (src : Source) (S W R at : ℕ) (r : Read) (before rules marks : List ℕ) : Type 0 where
-  pub answer : r ≡ read_of (counted (rules_from marking src S W R at []))
-  pub rows : RowsIn S W (rules_from marking src S W R at []) before rules marks
-  pub near : CountNear R (at + 42 * 256) r
+pub record RulesTold (marking : Bool) (src : Source) (S W R at : ℕ) (r : Result ℕ Refusal) (before rules marks : List ℕ) : Type 0 where
+  pub answer : reached r ≡ place_of (rules_from marking src S W R at [])
+  pub rows : RowsIn S W R (rules_from marking src S W R at []) before rules marks
+  pub near : PlaceNear (at + 42 * 256) r

@@ -6,24 +6,24 @@
 
 ghost use Rattle.std.specs.Prelude.{◌≤◌};
 
-use inputs::Listed;
 use listing::listing_within;
 use listing_limits::PANEL;
+use packing::refusal::Refusal;
 use printing::{print, print_end, print_number, print_rows};
 use reading_rows::SHOWN_NUMBERS;
 use std::io;
 
-fn print_answer(rt: &impl Print, name: &[u8], answer: Listed) -> io::Result<()> {
+fn print_answer(rt: &impl Print, name: &[u8], answer: Result<usize, Refusal>) -> io::Result<()> {
     print(rt, name)?;
     match answer {
-        Listed::Found(m) => {
+        Ok(m) => {
             print(rt, b": readings ")?;
             print_number(rt, m)?;
             print_end(rt)
         }
-        Listed::Refused(n) => {
+        Err(refusal) => {
             print(rt, b": refused ")?;
-            print_number(rt, n as usize)?;
+            print_number(rt, refusal.number() as usize)?;
             print_end(rt)
         }
     }
@@ -111,7 +111,7 @@ fn run_lines(rt: &impl Print, name: &[u8], grammar: &[u8], heard: &[u8]) -> io::
     let mut shown = [12345u32; SHOWN_NUMBERS];
     let answer = lines::lines(grammar, heard, &mut work, &mut out, &mut shown);
     print_answer(rt, name, answer)?;
-    if let Listed::Found(m) = answer {
+    if let Ok(m) = answer {
         print_rows(rt, &shown, m)?;
     }
     Ok(())

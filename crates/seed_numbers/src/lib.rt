@@ -43,22 +43,14 @@ pub fn ceiling_number(best: Key) -> usize
 fn in_numbers(key: Key) -> bool
     ensures { result ≡ true → InNumbers key }
 {
-    if key.price <= PRICES {
-        return key.back < BACKS;
-    }
-    false
+    key.price <= PRICES && key.back < BACKS
 }
 
 // Whether a floor and a best so far are, and the one below the other.
 pub fn divides(floor: Key, best: Key) -> bool
     ensures { result ≡ true → Divides floor best }
 {
-    if in_numbers(floor) {
-        if in_numbers(best) {
-            return floor_number(floor) < ceiling_number(best);
-        }
-    }
-    false
+    in_numbers(floor) && in_numbers(best) && floor_number(floor) < ceiling_number(best)
 }
 
 // The lesser of the best number and one above the floor, by heights above the floor: of height h is the number h + floor + 1. One
@@ -68,7 +60,7 @@ pub fn lesser_height(floor: usize, height: usize, number: usize) -> usize
     ensures { (result + (floor + 1) ≡ lesser floor (height + (floor + 1)) number) × (result ≤ height) }
 {
     let other = std::num::wrapping_sub_usize(number, floor + 1);
-    if other < height { other } else { height }
+    other.min(height)
 }
 
 // The key that the least number found stands for: the best so far where no seed is below it.

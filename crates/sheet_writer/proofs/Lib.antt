@@ -1,3 +1,2 @@
+pub mod Back
 pub mod Block
-pub mod Copied
-pub mod Fit

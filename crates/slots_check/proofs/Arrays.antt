@@ -1,8 +1,11 @@
 -- A word's cost is looked for among the candidates of an array one by one.
 use mathlib.Core.Path.{◌≡◌}
 use mathlib.Core.List.{List}
+use mathlib.Core.Bool.{Bool, true, false}
 use mathlib.Core.Option.{none, some}
-use Prim.Native.Nat.{ℕ, suc, ◌+◌, ◌-◌, ◌*◌, ◌≤◌, ◌<◌}
+use Rattle.std.proofs.Common.{Option}
+use Rattle.std.specs.Bool.{then_some}
+use Prim.Native.Nat.{ℕ, suc, ◌+◌, ◌-◌, ◌*◌, ◌^◌, ◌≤◌, ◌<◌}
 use native.Mathlib.Omega.{arith}
 use borrow.Author.Tests.{eq-eqb, ne_eqb}
 use lib.Dec.{ltb}
@@ -12,6 +15,7 @@ use Rattle.packing.specs.declared.Word as W
 use Rattle.packing.specs.Meaning.{not_heard}
 use Rattle.packing.specs.Flat.{candidates_of}
 use Rattle.derivation.specs.Walk.{cost_of}
+use Rattle.parse_stack.specs.Stack.{Small}
 
 -- a word's cost among candidates: the turns of a loop over them
 module _ (x : W.Word) (l : List ℕ) (start count k : ℕ) where
@@ -33,3 +37,8 @@ module _ (x : W.Word) (l : List ℕ) (start count k : ℕ) where
         let z : count - k ≡ suc (count - (k + 1)) = omega arith in
         let q : start + 2 * (k + 1) ≡ start + 2 * k + 2 = omega arith in
         rw (z, q, ne_eqb _ _ n)
+
+-- a cost that is let through is that of an array
+pub small : (b : Bool) (n : ℕ) {r : Option ℕ} → r ≡ then_some b n → n < 2 ^ 32 → Small r
+small true n e h = rw e h
+small false n e h = rw e tt

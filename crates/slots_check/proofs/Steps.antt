@@ -3,13 +3,13 @@ use mathlib.Core.Path.{◌≡◌, refl, sym, ap, ◌∙◌}
 use mathlib.Core.Bool.{Bool, true, false}
 use mathlib.Core.List.{List, [], ◌∷◌}
 use mathlib.Core.Option.{Option, none, some}
-use Prim.Native.Nat.{ℕ, suc, ◌+◌, ◌-◌, ◌≤◌, ◌<◌}
+use Prim.Native.Nat.{ℕ, zero, suc, ◌+◌, ◌-◌, ◌≤◌, ◌<◌}
 use native.Mathlib.Numerals.{add-one}
 use native.Mathlib.Omega.{arith}
-use borrow.Author.Tests.{eq-eqb}
+use borrow.Author.Tests.{eq-eqb, ne_eqb}
 use lib.Dec.{eqb, ltb}
-use lib.ListN.{length, get_or, get_elem?, take, drop, length-take, drop_of_length-le}
-use lib.Seq.{drop-cons, length-take-le, get_or-take}
+use lib.ListN.{length, get_or, get_elem?, drop, drop_of_length-le}
+use lib.Seq.{drop-cons}
 use Rattle.bits.specs.Bits.{pick}
 use Rattle.packing.specs.declared.Sym.{Sym}
 use Rattle.packing.specs.declared.Word as W
@@ -22,34 +22,33 @@ use Rattle.derivation.specs.Walk.{State, onward, stuck, cost_of, leaf_step, rule
 use Rattle.derivation.specs.Path as P
 use Rattle.derivation.proofs.Walk.{run_stuck}
 use Rattle.parse_stack.specs.Stack.{heads_of, with_head, fit_of, standing}
-use Rattle.parse_stack.specs.declared.Fit as F
 use Rattle.parse_stack.specs.declared.Progress.{Progress}
-use Rattle.parse_stack.specs.declared.Step.{Step}
-use Rattle.parse_stack.specs.declared.Step.TheVariants.{Onward, Stuck}
+use Rattle.std.proofs.Common.{Some, None}
+use Rattle.std.proofs.Common as std
 use Rattle.parse_stack.proofs.Heads.{length_heads, heads_top}
 use Rattle.parse_stack.proofs.Fits.{pair_there, word_there}
 use Rattle.slots_check.specs.Slots.{slot_at, behind, state_of}
 
 -- where no rule fits
-lost : (slots : Utterance) (A : Sym) (heads : List Sym) (w : ℕ) (o : Option R.Rule) → with_head A o ≡ F.TheVariants.Nothing → rule_step slots A heads w o
+lost : (slots : Utterance) (A : Sym) (heads : List Sym) (w : ℕ) (o : Option R.Rule) → with_head A o ≡ none → rule_step slots A heads w o
     ≡ stuck
 unfolding rule_step
 lost slots A heads w none e = refl
 lost slots A heads w (some (Pair H B C v)) e = go (eqb H.0 A.0) e
   where
-    go : (b : Bool) → pick b (F.TheVariants.Pair B C v) F.TheVariants.Nothing ≡ F.TheVariants.Nothing
+    go : (b : Bool) → pick b (some (Pair H B C v)) none ≡ none
         → pick b (pick (ltb (suc (length heads)) (length slots)) (onward slots (B ∷ C ∷ heads) (w + v)) stuck) stuck ≡ stuck
     go false f = refl
-    go true f = let z : ◌≡◌ {A = ℕ} 0 1 = cc in absurd (omega arith)
+    go true f = cc
 lost [] A heads w (some (Word H x v)) e = refl
 lost (slot ∷ slots) A heads w (some (Word H x v)) e = go (eqb H.0 A.0) e
   where
-    go : (b : Bool) → pick b (F.TheVariants.Word x v) F.TheVariants.Nothing ≡ F.TheVariants.Nothing
+    go : (b : Bool) → pick b (some (Word H x v)) none ≡ none
         → pick b (leaf_step slots heads (w + v) (cost_of x slot)) stuck ≡ stuck
     go false f = refl
-    go true f = let z : ◌≡◌ {A = ℕ} 0 1 = cc in absurd (omega arith)
+    go true f = cc
 
-pub nothing_fits : (rules : List R.Rule) (slots : Utterance) (heads : List Sym) (w r : ℕ) → fit_of rules heads r ≡ F.TheVariants.Nothing
+pub nothing_fits : (rules : List R.Rule) (slots : Utterance) (heads : List Sym) (w r : ℕ) → fit_of rules heads r ≡ none
     → stuck ≡ step rules (onward slots heads w) r
 unfolding step
 nothing_fits rules slots [] w r f = refl
@@ -60,20 +59,20 @@ in_slots : List ℕ → P.State → State
 in_slots slots (P.onward place left heads w) = onward (slots_of slots left place) heads w
 in_slots slots P.stuck = stuck
 
-in_slots_lem : (slots stack : List ℕ) (s : Step) → state_of slots stack s ≡ in_slots slots (standing stack s)
+in_slots_lem : (slots stack : List ℕ) (s : std.Option Progress) → state_of slots stack s ≡ in_slots slots (standing stack s)
 unfolding in_slots
-in_slots_lem slots stack (Onward p) = refl
-in_slots_lem slots stack Stuck = refl
+in_slots_lem slots stack (Some p) = refl
+in_slots_lem slots stack None = refl
 
 -- where one fits
 module _ (rules : List R.Rule) (slots stack : List ℕ) (at : Progress) (r : ℕ) where
   abbrev from : State
-  from = state_of slots stack (Onward at)
+  from = state_of slots stack (Some at)
 
   abbrev below : List Sym
   below = heads_of stack (at.height - 1)
 
-  pair_step_lem : {B C : Sym} {v : ℕ} → fit_of rules (heads_of stack at.height) r ≡ F.TheVariants.Pair B C v
+  pair_step_lem : {H B C : Sym} {v : ℕ} → fit_of rules (heads_of stack at.height) r ≡ some (Pair H B C v)
       → step rules from r ≡ pick (ltb at.height at.left) (onward (slots_of slots at.left at.place) (B ∷ C ∷ below) (at.weight + v)) stuck
   unfolding step rule_step
   pair_step_lem f =
@@ -88,21 +87,21 @@ module _ (rules : List R.Rule) (slots stack : List ℕ) (at : Progress) (r : ℕ
         n,
       )
 
-  pub pair_fits : {B C : Sym} {v : ℕ} (after : List ℕ) (s : Step) → fit_of rules (heads_of stack at.height) r ≡ F.TheVariants.Pair B C v
+  pub pair_fits : {H B C : Sym} {v : ℕ} (after : List ℕ) (s : std.Option Progress) → fit_of rules (heads_of stack at.height) r ≡ some (Pair H B C v)
       → standing after s ≡ pick (ltb at.height at.left) (P.onward at.place at.left (B ∷ C ∷ below) (at.weight + v)) P.stuck
       → state_of slots after s ≡ step rules from r
   unfolding in_slots
-  pair_fits {B} {C} {v} after s f e = in_slots_lem slots after s ∙ ap (in_slots slots) e ∙ go (ltb at.height at.left) ∙ sym (pair_step_lem f)
+  pair_fits {H} {B} {C} {v} after s f e = in_slots_lem slots after s ∙ ap (in_slots slots) e ∙ go (ltb at.height at.left) ∙ sym (pair_step_lem f)
     where
       go : (b : Bool) → in_slots slots (pick b (P.onward at.place at.left (B ∷ C ∷ below) (at.weight + v)) P.stuck)
           ≡ pick b (onward (slots_of slots at.left at.place) (B ∷ C ∷ below) (at.weight + v)) stuck
       go true = refl
       go false = refl
 
-  pub word_fits : {x : W.Word} {v : ℕ} → at.height ≤ at.left → fit_of rules (heads_of stack at.height) r ≡ F.TheVariants.Word x v
+  pub word_fits : {H : Sym} {x : W.Word} {v : ℕ} → at.height ≤ at.left → fit_of rules (heads_of stack at.height) r ≡ some (Word H x v)
       → step rules from r ≡ leaf_step (slots_of slots (at.left - 1) (behind slots at.place)) below (at.weight + v) (cost_of x (slot_at slots at.place))
   unfolding step rule_step slots_by
-  word_fits {x} {v} l f =
+  word_fits {H} {x} {v} l f =
       let (h, there) = word_there rules stack at.height r f in
       let n : at.left ≡ suc (at.left - 1) = omega arith in
       let A : Sym = symbol_of (get_or stack (at.height - 1) 0) in
@@ -110,28 +109,28 @@ module _ (rules : List R.Rule) (slots stack : List ℕ) (at : Progress) (r : ℕ
       (ap (λ (m : ℕ). rule_step (slots_of slots m at.place) A below at.weight (some (Word A x v))) n
       ∙ rw (eq-eqb A.0 A.0 refl))
 
--- the turns of a loop over the first m numbers of a walk
-module _ (rules : List R.Rule) (s : State) (walk : List ℕ) (m i : ℕ) where
-  pub run_more : m ≤ length walk → i < m → {r : ℕ} {next : State} → r ≡ get_or walk i 0 → next ≡ step rules s r
-      → run rules next (drop (i + 1) (take m walk)) ≡ run rules s (drop i (take m walk))
+-- the turns of a loop over the numbers of a walk
+module _ (rules : List R.Rule) (s : State) (walk : List ℕ) (i : ℕ) where
+  pub run_more : i < length walk → {r : ℕ} {next : State} → r ≡ get_or walk i 0 → next ≡ step rules s r
+      → run rules next (drop (i + 1) walk) ≡ run rules s (drop i walk)
   unfolding run
-  run_more b h e f =
-      let there : i < length (take m walk) = rw (length-take-le m walk b) h in
-      rw (f, e, drop-cons (take m walk) i 0 there, get_or-take m walk i 0 h, add-one i)
+  run_more h e f = rw (f, e, drop-cons walk i 0 h, add-one i)
 
-  pub run_lost : m ≤ length walk → i < m → {r : ℕ} → r ≡ get_or walk i 0 → stuck ≡ step rules s r → run rules s (drop i (take m walk)) ≡ stuck
-  run_lost b h e f = sym (run_more b h e f) ∙ run_stuck rules (drop (i + 1) (take m walk))
+  pub run_lost : i < length walk → {r : ℕ} → r ≡ get_or walk i 0 → stuck ≡ step rules s r → run rules s (drop i walk) ≡ stuck
+  run_lost h e f = sym (run_more h e f) ∙ run_stuck rules (drop (i + 1) walk)
 
-  pub run_over : m ≤ i → run rules s (drop i (take m walk)) ≡ s
+  pub run_over : length walk ≤ i → run rules s (drop i walk) ≡ s
   unfolding run
-  run_over h = let past : length (take m walk) ≤ i = rw length-take (omega arith) in rw (drop_of_length-le (take m walk) past)
+  run_over h = rw (drop_of_length-le walk h)
 
 -- the walk has ended where no slot is left
-module _ (slots stack : List ℕ) (at : Progress) where
-  pub at_end : at.left ≡ 0 → at.height ≤ at.left → finished (state_of slots stack (Onward at)) ≡ some at.weight
-  unfolding finished slots_by heads_of
-  at_end e l = let n : at.height ≡ 0 = omega arith in rw (e, n)
-
-  pub not_at_end : (at.left ≡ 0 → ⊥) → finished (state_of slots stack (Onward at)) ≡ none
-  unfolding finished slots_by
-  not_at_end f = let n : at.left ≡ suc (at.left - 1) = omega arith in rw n
+pub at_end : (slots stack : List ℕ) (at : Progress) → at.height ≤ at.left → finished (state_of slots stack (Some at))
+    ≡ pick (eqb at.left 0) (some at.weight) none
+unfolding finished slots_by heads_of
+at_end slots stack at l = go at.left at.height l
+  where
+    go : (left height : ℕ) → height ≤ left → finished (onward (slots_of slots left at.place) (heads_of stack height) at.weight)
+        ≡ pick (eqb left 0) (some at.weight) none
+    go zero zero l = refl
+    go zero (suc n) l = absurd (omega arith)
+    go (suc m) n l = rw (ne_eqb (suc m) 0 (λ e. omega arith))

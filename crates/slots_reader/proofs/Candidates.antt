@@ -14,26 +14,9 @@ use Rattle.packing.specs.Utterance.{offered, cost, candidates_from}
 use Rattle.packing.proofs.Parse.{through, same_parsed}
 use Rattle.packing.proofs.Bounds.{field_at_range, field_at_next}
 use Rattle.packing.proofs.Widths.{byte_width}
-use Rattle.slots_reader.specs.Placed.{candidate_from, candidate_of}
-use Rattle.slots_reader.specs.declared.CandidateRead.TheVariants.{Candidate, Refused}
+use Rattle.slots_reader.specs.Placed.{candidate_from}
 
 module _ (src : Source) (W : ℕ) where
-  -- the ways out of the reading of one candidate
-  module _ (least at : ℕ) where
-    pub no_word : {n : ℕ} → field_at src at (offered W least) ≡ failed n → Refused n ≡ candidate_of (candidate_from src W least at)
-    unfolding candidate_from
-    no_word e = rw e
-
-    module _ {w next : ℕ} (e : field_at src at (offered W least) ≡ parsed w next) where
-      pub no_cost : {n : ℕ} → field_at src next cost ≡ failed n → Refused n ≡ candidate_of (candidate_from src W least at)
-      unfolding candidate_from
-      no_cost h = rw (e, h)
-
-      pub word_and_cost : {c end : ℕ} → field_at src next cost ≡ parsed c end
-          → Candidate w c (record { at = end }) ≡ candidate_of (candidate_from src W least at)
-      unfolding candidate_from
-      word_and_cost h = rw (e, h)
-
   -- the first candidate, then the others
   abbrev others : ℕ → List M.Candidate → M.Candidate → ℕ → Parse (List M.Candidate)
   others n cs (candidate w c) at = candidates_from src W n (suc w.0) at (cs ++ (candidate w c ∷ []))

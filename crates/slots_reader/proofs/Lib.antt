@@ -1,4 +1,3 @@
-pub mod FieldInversion
 pub mod Numbers
 pub mod Candidates
 pub mod Slots

@@ -1,41 +1,31 @@
 -- Reading slots one by one: the definition's slots are the first, then the others. Assumes nothing.
-use mathlib.Core.Path.{◌≡◌, refl}
+use mathlib.Core.Path.{◌≡◌}
 use mathlib.Core.List.{List, [], ◌∷◌, ◌++◌}
+use Rattle.std.specs.Prelude.{Result, Ok, Err}
 use Prim.Native.Nat.{ℕ, zero, suc, ◌+◌, ◌-◌, ◌*◌, ◌≤◌, ◌<◌}
 use native.Mathlib.Omega.{arith}
 use lib.ListN.{length, set, length-append}
 use Rattle.packing.specs.Meaning.{Candidate, Utterance}
 use Rattle.packing.specs.Parse.{Parse, parsed, failed}
 use Rattle.packing.specs.Source.{Source, field_at}
-use Rattle.packing.specs.Utterance.{candidate_count, candidates_from, slot_from, slots_from}
+use Rattle.packing.specs.Utterance.{candidate_count, slot_from, slots_from}
 use Rattle.packing.specs.Store.{store_all}
 use Rattle.packing.proofs.Parse.{through, same_parsed}
 use Rattle.packing.proofs.Bounds.{field_at_range, field_at_next}
-use Rattle.slots_reader.specs.Placed.{candidate_numbers, one_slot_numbers, PlacedAs, placed, not_placed}
-use Rattle.slots_reader.specs.declared.Placed as P
+use Rattle.packing.specs.declared.refusal.Refusal.{Refusal}
+use Rattle.slots_reader.specs.Placed.{candidate_numbers, one_slot_numbers, PlacedAs}
+use Rattle.slots_reader.specs.declared.Places.{Places}
 use Rattle.slots_reader.proofs.Candidates.{candidates_near}
 
 -- candidates that are placed behind their number are a slot
-pub slot_placed : (W : ℕ) {before after : List ℕ} {to n : ℕ} {x : Parse (List Candidate)} {r : P.Placed}
+pub slot_placed : (W : ℕ) (before after : List ℕ) (to n : ℕ) (x : Parse (List Candidate)) (r : Result Places Refusal)
     → PlacedAs (candidate_numbers W) (set before to n) (to + 1) after x r → ((cs : List Candidate) (next : ℕ) → x ≡ parsed cs next → length cs ≡ n)
     → PlacedAs (one_slot_numbers W) before to after x r
 unfolding store_all
-slot_placed W {to = to} (placed cs next h) size =
-    let z : to + 1 + length (candidate_numbers W cs) ≡ to + suc (length (candidate_numbers W cs)) = omega arith in
-    rw z (placed cs next (rw (size cs next refl) h))
-slot_placed W (not_placed n) size = not_placed n
+slot_placed W before after to n x (Ok p) (cs, e, t, h) size = (cs, e, omega arith, rw (size cs p.at e) h)
+slot_placed W before after to n x (Err r) e size = e
 
 module _ (src : Source) (W : ℕ) where
-  -- a slot is its count, then its candidates
-  module _ (at : ℕ) where
-    pub slot_stops : {n : ℕ} → field_at src at candidate_count ≡ failed n → slot_from src W at ≡ failed n
-    unfolding slot_from
-    slot_stops e = rw e
-
-    pub slot_goes_on : {n next : ℕ} → field_at src at candidate_count ≡ parsed n next → slot_from src W at ≡ candidates_from src W n 0 next []
-    unfolding slot_from
-    slot_goes_on e = rw e
-
   -- the turns of the loop over the slots: the ith is refused; it was read; there are no more
   module _ (count i at : ℕ) (u : Utterance) where
     module _ (l : i < count) where

@@ -14,8 +14,7 @@ use Rattle.packing.proofs.Parse as P
 use Rattle.packing.proofs.Refusals.{Refuses, granted, denied, choose_row, then_rows, grammar_block_row}
 use Rattle.phrases.specs.Enumeration.{first_phrase}
 use Rattle.specimen.specs.Conditions.{asked}
-use Rattle.specimen.specs.Specimen.{specimen, answered_of, output_of}
-use Rattle.specimen.specs.declared.Answered.TheVariants.{Refused}
+use Rattle.specimen.specs.Specimen.{specimen, length_told, output_of}
 
 module _ (most : ℕ) (s : List ℕ) (n out : ℕ) where
   pub asked_block : {m : ℕ} → grammar_block s ≡ refused m → asked most s n out ≡ refused m
@@ -52,7 +51,7 @@ asked_out most s n out g e =
 -- a refusal changes nothing, and what is accepted has its string
 module _ (v : Verdict Grammar) (find : Grammar → Option (List ℕ)) where
   pub refused_told : (out : List ℕ) {m : ℕ} → v ≡ refused m
-      → (Refused m ≡ answered_of (v then λ g. accepted (find g))) × (out ≡ output_of (v then λ g. accepted (find g)) out)
+      → (refused m ≡ length_told (v then λ g. accepted (find g))) × (out ≡ output_of (v then λ g. accepted (find g)) out)
   refused_told out e = rw e (refl, refl)
 
   pub accepted_told : {g : Grammar} → v ≡ accepted g → (v then λ g. accepted (find g)) ≡ accepted (find g)
@@ -60,7 +59,7 @@ module _ (v : Verdict Grammar) (find : Grammar → Option (List ℕ)) where
 
 module _ (s : List ℕ) (n size : ℕ) where
   pub specimen_refused : (out : List ℕ) {m : ℕ} → asked 24 s n size ≡ refused m
-      → (Refused m ≡ answered_of (specimen s n size)) × (out ≡ output_of (specimen s n size) out)
+      → (refused m ≡ length_told (specimen s n size)) × (out ≡ output_of (specimen s n size) out)
   unfolding specimen
   specimen_refused out e = refused_told (asked 24 s n size) (λ g. first_phrase g n) out e
 

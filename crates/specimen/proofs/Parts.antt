@@ -1,4 +1,4 @@
--- What is read where: a cell's string is a part of the table, and a rule of an accepted grammar is read as it is. Assumes nothing.
+-- A rule of an accepted grammar is read as it is, and one of another head makes nothing. Assumes nothing.
 use mathlib.Core.Path.{◌≡◌, sym, ◌∙◌}
 use mathlib.Core.List.{List}
 use mathlib.Core.Bool.{Bool, true, false}
@@ -18,23 +18,7 @@ use Rattle.packing.specs.declared.Rule.TheVariants.{Pair, Word}
 use Rattle.derivation.proofs.Ranges.{Within}
 use Rattle.phrases.specs.Recursion.{by_rule, cell_of}
 use Rattle.phrases.specs.Padded.{lesser_word, lesser_join}
-use Rattle.phrases.proofs.Padded.{take_drop}
 use Rattle.specimen.specs.Table.{fitted, fitted_at, lesser_split, lesser_rule}
-
--- a part of 24 bytes, as the code lends it
-abbrev pub lent : List ℕ → ℕ → List ℕ
-lent t at = take (at + 24 - at) (drop at t)
-
-pub lent_is : (t : List ℕ) (at : ℕ) → lent t at ≡ slice at (at + 24) t
-lent_is t at = let e : at + 24 - at ≡ 24 = omega arith in rw e (sym (take_drop at 24 t))
-
-pub first_byte : (t : List ℕ) (at : ℕ) → get_or (slice at (at + 24) t) 0 0 ≡ get_or t at 0
-first_byte t at = get_or-drop at _ 0 0 ∙ rw (add-zero at) (get_or-take (at + 24) t at 0 (omega arith))
-
-pub split_is : (t : List ℕ) (m : ℕ) (b c : Sym) (j : ℕ) (best : List ℕ) {x y : ℕ} {r : List ℕ} → x ≡ 24 * cell_of b j → y ≡ 24 * cell_of c (m - j)
-    → r ≡ lesser_join best (lent t x) (lent t y) j → r ≡ lesser_split t m b c j best
-unfolding lesser_split
-split_is t m b c j best {x} {y} p q e = rw (← p, ← q, ← lent_is t x, ← lent_is t y) e
 
 pub fitted_is : (S W : ℕ) → S ≤ 32 → W ≤ 200 → (r : Rule) → Within S W r → fitted r ≡ r
 fitted_is S W s w (Pair h b c k) (p, q, z) =
@@ -54,7 +38,7 @@ module _ {O : Type 0} (addSplit : Sym → Sym → ℕ → O → O) (add_word : �
   other_head : (rules : List ℕ) (r : ℕ) → (get_or rules (5 * r + 1) 0 ≡ A.0 → ⊥) → by_rule addSplit add_word A m o (fitted_at rules r) ≡ o
   other_head rules r h = other_rule (eqb (get_or rules (5 * r) 0) 0) (symbol_of (get_or rules (5 * r + 1) 0)) _ _ _ _ _ h
 
-pub passed_over : (t : List ℕ) (a : Sym) (m : ℕ) (best rules : List ℕ) (r : ℕ) → (get_or rules (5 * r + 1) 0 ≡ a.0 → ⊥) → best
+pub passed_over : (t : List (List ℕ)) (a : Sym) (m : ℕ) (best rules : List ℕ) (r : ℕ) → (get_or rules (5 * r + 1) 0 ≡ a.0 → ⊥) → best
     ≡ lesser_rule t a m best (fitted_at rules r)
 unfolding lesser_rule
 passed_over t a m best rules r h = sym (other_head (lesser_split t m) (λ x best. lesser_word best x) a m best rules r h)

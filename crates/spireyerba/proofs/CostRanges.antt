@@ -15,7 +15,7 @@ use Rattle.cost_ranges.specs.Conditions.{asked_ranges}
 use Rattle.chart.specs.WorkTable.{work_after}
 use Rattle.cost_ranges.specs.CostRanges.{answered, ranges, ranged_of}
 use Rattle.cost_ranges.specs.declared.Ranged.{Ranged}
-use Rattle.cost_ranges.specs.declared.Ranged.TheVariants.{Nothing, Outweighed, Stands, Refused}
+use Rattle.cost_ranges.specs.declared.Ranged.TheVariants.{Nothing, Outweighed, Stands}
 use Rattle.cost_ranges.proofs.Refused.{ranges_asked, ranges_row}
 use Rattle.cost_ranges.proofs.WaysOut.{answers_asked}
 use Rattle.codes.specs.Code.{code_of}
@@ -25,57 +25,40 @@ use Rattle.spireyerba.specs.Demands.{ranges_number, least_of, greatest_of}
 use Rattle.spireyerba.proofs.Codes.{Small, small_size, small_refusal, told_code, told_number}
 use Rattle.spireyerba.proofs.Demands.{asked_first}
 
--- the code of an answer, and what is written
-abbrev pub ranged_code : Ranged → ℤ
-ranged_code Nothing = pos 0
-ranged_code (Outweighed w) = pos 1
-ranged_code (Stands w) = pos 2
-ranged_code (Refused n) = neg_ℤ (pos n)
+-- the number of an answer, and what is written
+abbrev pub ranged_number : Ranged → ℕ
+ranged_number Nothing = 0
+ranged_number (Outweighed w) = 1
+ranged_number (Stands w) = 2
 
-abbrev pub least_by : Ranged → ℕ → ℕ
-least_by Nothing before = before
-least_by (Outweighed w) before = w.least
-least_by (Stands w) before = w.least
-least_by (Refused n) before = before
+abbrev pub least_by : Verdict Ranged → ℕ → ℕ
+least_by (accepted Nothing) before = before
+least_by (accepted (Outweighed w)) before = w.least
+least_by (accepted (Stands w)) before = w.least
+least_by (refused n) before = before
 
-abbrev pub greatest_by : Ranged → ℕ → ℕ
-greatest_by Nothing before = before
-greatest_by (Outweighed w) before = w.greatest
-greatest_by (Stands w) before = w.greatest
-greatest_by (Refused n) before = before
-
-abbrev SmallRanged : Ranged → Type 0
-SmallRanged Nothing = Unit {0}
-SmallRanged (Outweighed w) = Unit {0}
-SmallRanged (Stands w) = Unit {0}
-SmallRanged (Refused n) = n < 2147483648
+abbrev pub greatest_by : Verdict Ranged → ℕ → ℕ
+greatest_by (accepted Nothing) before = before
+greatest_by (accepted (Outweighed w)) before = w.greatest
+greatest_by (accepted (Stands w)) before = w.greatest
+greatest_by (refused n) before = before
 
 -- of an answer over all choices, and of a verdict
-answer_code : (a : Answer) → ranged_code (answered a) ≡ pos (ranges_number a)
-answer_code nothing = refl
-answer_code (outweighed l h) = refl
-answer_code (stands l h) = refl
-
-answer_least : (a : Answer) (before : ℕ) → least_by (answered a) before ≡ least_of a before
-answer_least nothing before = refl
-answer_least (outweighed l h) before = refl
-answer_least (stands l h) before = refl
-
-answer_greatest : (a : Answer) (before : ℕ) → greatest_by (answered a) before ≡ greatest_of a before
-answer_greatest nothing before = refl
-answer_greatest (outweighed l h) before = refl
-answer_greatest (stands l h) before = refl
-
-ranged_same : (v : Verdict Answer) → ranged_code (ranged_of v) ≡ code_of ranges_number v
-ranged_same (accepted a) = answer_code a
-ranged_same (refused n) = refl
+answer_number : (a : Answer) → ranged_number (answered a) ≡ ranges_number a
+answer_number nothing = refl
+answer_number (outweighed l h) = refl
+answer_number (stands l h) = refl
 
 least_same : (v : Verdict Answer) (before : ℕ) → least_by (ranged_of v) before ≡ least_after v before
-least_same (accepted a) before = answer_least a before
+least_same (accepted nothing) before = refl
+least_same (accepted (outweighed l h)) before = refl
+least_same (accepted (stands l h)) before = refl
 least_same (refused n) before = refl
 
 greatest_same : (v : Verdict Answer) (before : ℕ) → greatest_by (ranged_of v) before ≡ greatest_after v before
-greatest_same (accepted a) before = answer_greatest a before
+greatest_same (accepted nothing) before = refl
+greatest_same (accepted (outweighed l h)) before = refl
+greatest_same (accepted (stands l h)) before = refl
 greatest_same (refused n) before = refl
 
 low_answer : (a : Answer) → ranges_number a < 2147483648
@@ -96,36 +79,24 @@ module _ (grammar low high work : List ℕ) where
       go (granted {a}) = small_size {a = a} (low_answer a)
       go (denied {n} l) = small_refusal {n = n} (omega arith)
 
-  module _ {r s : Ranged} (e : r ≡ ranged_of due) (told : r ≡ s) where
-    pub ranged_small : SmallRanged s
-    ranged_small = subst SmallRanged (sym e ∙ told) (go ranges_small)
-      where
-        answers : (a : Answer) → SmallRanged (answered a)
-        answers nothing = tt
-        answers (outweighed l h) = tt
-        answers (stands l h) = tt
+  module _ {w : Verdict Ranged} (e : w ≡ ranged_of due) where
+    pub ranged_code : code_of ranged_number w ≡ ranges_code due
+    ranged_code = told_code ranges_number answered ranged_number answer_number due e
 
-        go : {v : Verdict Answer} → Small ranges_number v → SmallRanged (ranged_of v)
-        go (small_size {a} h) = answers a
-        go (small_refusal h) = h
-
-    pub ranged_code_lem : ranged_code s ≡ ranges_code due
-    ranged_code_lem = told_code ranges_number ranged_of ranged_code due (ranged_same due) e told
-
-    pub ranged_number : {z : ℤ} → z ≡ ranged_code s → to_z w32 (of_z w32 z) ≡ ranges_code due
-    ranged_number p = told_number ranges_number ranged_of ranged_code due (ranged_same due) ranges_small e told p
+    pub ranged_refusal : {z : ℤ} → z ≡ code_of ranged_number w → to_z w32 (of_z w32 z) ≡ ranges_code due
+    ranged_refusal p = told_number ranges_number answered ranged_number answer_number due e ranges_small p
 
     module _ (least greatest : ℕ) where
-      least_told : least_by s least ≡ least_after due least
-      least_told = ap (λ (x : Ranged). least_by x least) (sym told ∙ e) ∙ least_same due least
+      least_told : least_by w least ≡ least_after due least
+      least_told = ap (λ (x : Verdict Ranged). least_by x least) e ∙ least_same due least
 
-      greatest_told : greatest_by s greatest ≡ greatest_after due greatest
-      greatest_told = ap (λ (x : Ranged). greatest_by x greatest) (sym told ∙ e) ∙ greatest_same due greatest
+      greatest_told : greatest_by w greatest ≡ greatest_after due greatest
+      greatest_told = ap (λ (x : Verdict Ranged). greatest_by x greatest) e ∙ greatest_same due greatest
 
       -- of every way out
       pub ranges_told : {code : ℤ} {work' : List ℕ} → code ≡ ranges_code due → work' ≡ work_after due work
-          → RangedAs due work least greatest code work' (least_by s least) (greatest_by s greatest)
-          × D.CostRanges grammar low high work least greatest code work' (least_by s least) (greatest_by s greatest)
+          → RangedAs due work least greatest code work' (least_by w least) (greatest_by w greatest)
+          × D.CostRanges grammar low high work least greatest code work' (least_by w least) (greatest_by w greatest)
       ranges_told ec ew =
           let l = least_told in
           let h = greatest_told in (

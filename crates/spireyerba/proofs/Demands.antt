@@ -28,8 +28,9 @@ use Rattle.packing.proofs.Refusals.{
   utterance_to_block_row,
   utterance_to_sheet_row,
 }
-use Rattle.sheet_writer.specs.Answer.{written_of}
-use Rattle.packing.specs.declared.Written as W
+use Rattle.packing.specs.Read.{as_verdict, counted}
+use Rattle.packing.specs.declared.refusal.Refusal.{Refusal}
+use Rattle.packing.proofs.Numbers.{same_verdict}
 use Rattle.office.specs.Office.{Office}
 use Rattle.office.specs.Sheet.{office_sheet}
 use Rattle.office.specs.Conversion.{convert_marked}
@@ -41,13 +42,12 @@ use Rattle.office_block.proofs.Refused.{office_to_block_row}
 use Rattle.office_theory.proofs.Theorems.{derivations_match, result_accepted}
 use Rattle.derivation.specs.Derivation.{Tree, walk}
 use Rattle.checker.specs.Judgement.{OfDerivation}
-use Rattle.checker.specs.Check.{check, checked_of}
-use Rattle.checker.specs.declared.Checked as C
+use Rattle.std.specs.Prelude as R
+use Rattle.checker.specs.Check.{check, passed}
 use Rattle.checker.proofs.Refused.{check_row, refused_34, refused_35, refused_36}
 use Rattle.checker.proofs.Theorems.{judged_so}
-use Rattle.chance.specs.Answer.{chance, chance_of}
+use Rattle.chance.specs.Answer.{chance}
 use Rattle.chance.specs.Chance.{shares_of, one, product_of, asked_chance, Shown}
-use Rattle.chance.specs.declared.Outcome as Chance
 use Rattle.chance.proofs.Shown.{chance_row, chance_asked}
 use Rattle.chart.specs.WorkTable.{work_after}
 use Rattle.listing.specs.Conditions.{library, panel, Within, asked_listing}
@@ -113,24 +113,26 @@ module _ {A B : Type 0} (size : B → ℕ) {code : ℤ} (v : Verdict A) (f : A �
 
 -- the conversions
 converts : (turn : List ℕ → Verdict (List ℕ)) {back : List ℕ → Verdict (List ℕ)} {Row : ℕ → Type 0} (given out : List ℕ) {out' : List ℕ} {code : ℤ}
-    {r : W.Written}
+    {r : R.Result ℕ Refusal}
     → Refuses Row (fitting (turn given) out) → Refuses Low (fitting (turn given) out)
     → code ≡ code_of length (fitting (turn given) out) → out' ≡ written (fitting (turn given) out) out
-    → r ≡ written_of (fitting (turn given) out) → TurnsBack back given (λ n. r ≡ W.TheVariants.Length n) out'
+    → as_verdict r ≡ counted (fitting (turn given) out) → TurnsBack back given (λ n. r ≡ R.Ok n) out'
     → Converts turn back Row given out code out'
 converts turn given out rows low e w told back = record {
   demand_1 = first length rows e (λ l p. (refl, rw p at w)) (λ n p. rw p at w);
-  demand_2 = λ n h. let (l, p, m) = accepted_code length low e h in back n (told ∙ ap written_of p ∙ ap W.TheVariants.Length m);
+  demand_2 = λ n h. let (l, p, m) = accepted_code length low e h in back n (same_verdict _ (R.Ok n) (told ∙ ap counted p ∙ ap accepted m));
 }
 
-pub grammar_to_block_lem : (sheet out : List ℕ) {out' : List ℕ} {code : ℤ} {r : W.Written} → code ≡ code_of length (fitting (grammar_to_block sheet) out)
-    → out' ≡ written (fitting (grammar_to_block sheet) out) out → r ≡ written_of (fitting (grammar_to_block sheet) out)
-    → TurnsBack grammar_to_sheet sheet (λ n. r ≡ W.TheVariants.Length n) out' → D.GrammarToBlock sheet out code out'
+pub grammar_to_block_lem : (sheet out : List ℕ) {out' : List ℕ} {code : ℤ} {r : R.Result ℕ Refusal}
+    → code ≡ code_of length (fitting (grammar_to_block sheet) out)
+    → out' ≡ written (fitting (grammar_to_block sheet) out) out → as_verdict r ≡ counted (fitting (grammar_to_block sheet) out)
+    → TurnsBack grammar_to_sheet sheet (λ n. r ≡ R.Ok n) out' → D.GrammarToBlock sheet out code out'
 grammar_to_block_lem sheet out = converts grammar_to_block sheet out (grammar_to_block_row sheet out) (low_grammar_to_block sheet out)
 
-pub grammar_to_sheet_lem : (block out : List ℕ) {out' : List ℕ} {code : ℤ} {r : W.Written} → code ≡ code_of length (fitting (grammar_to_sheet block) out)
-    → out' ≡ written (fitting (grammar_to_sheet block) out) out → r ≡ written_of (fitting (grammar_to_sheet block) out)
-    → TurnsBack grammar_to_block block (λ n. r ≡ W.TheVariants.Length n) out' → D.GrammarToSheet block out code out'
+pub grammar_to_sheet_lem : (block out : List ℕ) {out' : List ℕ} {code : ℤ} {r : R.Result ℕ Refusal}
+    → code ≡ code_of length (fitting (grammar_to_sheet block) out)
+    → out' ≡ written (fitting (grammar_to_sheet block) out) out → as_verdict r ≡ counted (fitting (grammar_to_sheet block) out)
+    → TurnsBack grammar_to_block block (λ n. r ≡ R.Ok n) out' → D.GrammarToSheet block out code out'
 grammar_to_sheet_lem block out = converts grammar_to_sheet block out (grammar_to_sheet_row block out) (low_grammar_to_sheet block out)
 
 -- an office sheet: what was written is the block of the converted grammar
@@ -162,17 +164,17 @@ office_to_block_lem sheet out {out'} e w = record {
         let same : k ≡ l = accepted_is (accepted_else (ltb (length out) (length k)) 43 (accepted k) b).1 in
         rw front (office_result sheet (rw same at a))
 
-pub utterance_to_block_lem : (grammar sheet out : List ℕ) {out' : List ℕ} {code : ℤ} {r : W.Written}
+pub utterance_to_block_lem : (grammar sheet out : List ℕ) {out' : List ℕ} {code : ℤ} {r : R.Result ℕ Refusal}
     → code ≡ code_of length (fitting (utterance_to_block grammar sheet) out) → out' ≡ written (fitting (utterance_to_block grammar sheet) out) out
-    → r ≡ written_of (fitting (utterance_to_block grammar sheet) out)
-    → TurnsBack (utterance_to_sheet grammar) sheet (λ n. r ≡ W.TheVariants.Length n) out' → D.UtteranceToBlock grammar sheet out code out'
+    → as_verdict r ≡ counted (fitting (utterance_to_block grammar sheet) out)
+    → TurnsBack (utterance_to_sheet grammar) sheet (λ n. r ≡ R.Ok n) out' → D.UtteranceToBlock grammar sheet out code out'
 utterance_to_block_lem grammar sheet out =
     converts (utterance_to_block grammar) sheet out (utterance_to_block_row grammar sheet out) (low_utterance_to_block grammar sheet out)
 
-pub utterance_to_sheet_lem : (grammar block out : List ℕ) {out' : List ℕ} {code : ℤ} {r : W.Written}
+pub utterance_to_sheet_lem : (grammar block out : List ℕ) {out' : List ℕ} {code : ℤ} {r : R.Result ℕ Refusal}
     → code ≡ code_of length (fitting (utterance_to_sheet grammar block) out) → out' ≡ written (fitting (utterance_to_sheet grammar block) out) out
-    → r ≡ written_of (fitting (utterance_to_sheet grammar block) out)
-    → TurnsBack (utterance_to_block grammar) block (λ n. r ≡ W.TheVariants.Length n) out' → D.UtteranceToSheet grammar block out code out'
+    → as_verdict r ≡ counted (fitting (utterance_to_sheet grammar block) out)
+    → TurnsBack (utterance_to_block grammar) block (λ n. r ≡ R.Ok n) out' → D.UtteranceToSheet grammar block out code out'
 utterance_to_sheet_lem grammar block out =
     converts (utterance_to_sheet grammar) block out (utterance_to_sheet_row grammar block out) (low_utterance_to_sheet grammar block out)
 
@@ -215,13 +217,13 @@ module _ (grammar utterance : List ℕ) (N : ℕ) (work out : List ℕ) where
   }
 
 -- the check
-passed : (v : Verdict Tree) → checked_of v ≡ C.TheVariants.Passes → code_of (λ d. 0) v ≡ pos 0
-passed (accepted d) e = refl
-passed (refused n) e = let z : ◌≡◌ {A = ℕ} 0 1 = cc in absurd (omega arith)
+code_passes : (v : Verdict Tree) → accepted tt ≡ passed v → code_of (λ d. 0) v ≡ pos 0
+code_passes (accepted d) e = refl
+code_passes (refused n) e = absurd (refused≢accepted (sym e))
 
 module _ (grammar utterance reading : List ℕ) where
-  pub checks : {code : ℤ} {r : C.Checked} → Bytes reading → code ≡ code_of (λ d. 0) (check grammar utterance reading)
-      → r ≡ checked_of (check grammar utterance reading) → (r ≡ C.TheVariants.Passes) ↔ OfDerivation grammar utterance reading
+  pub checks : {code : ℤ} {r : R.Result (Unit {0}) Refusal} → Bytes reading → code ≡ code_of (λ d. 0) (check grammar utterance reading)
+      → as_verdict r ≡ passed (check grammar utterance reading) → (r ≡ R.Ok tt) ↔ OfDerivation grammar utterance reading
       → D.Check grammar utterance reading code
   checks {code} {r} bytes e told passes =
       let low = low_check grammar utterance reading in record {
@@ -229,8 +231,8 @@ module _ (grammar utterance reading : List ℕ) where
         judgement = judged_so grammar utterance reading bytes;
         demand_1 = first (λ d. 0) (check_row grammar utterance reading) e (λ d p. refl) (λ n p. tt);
         demand_2 = (
-          λ h. let (d, p, m) = accepted_code (λ d. 0) low e h in passes.0 (told ∙ ap checked_of p),
-          λ o. e ∙ passed (check grammar utterance reading) (sym told ∙ passes.1 o),
+          λ h. let (d, p, m) = accepted_code (λ d. 0) low e h in passes.0 (same_verdict r (R.Ok tt) (told ∙ ap passed p)),
+          λ o. e ∙ code_passes (check grammar utterance reading) (sym (ap as_verdict (passes.1 o)) ∙ told),
         );
         no_walk = Iff.trans (refused_code (λ d. 0) low e (omega arith)) (refused_34 grammar utterance reading);
         other_weight = Iff.trans (refused_code (λ d. 0) low e (omega arith)) (refused_35 grammar utterance reading);
@@ -239,15 +241,15 @@ module _ (grammar utterance reading : List ℕ) where
 
 -- the chance: what is accepted was written
 module _ (grammar heard reading shares : List ℕ) where
-  pub chances : {code : ℤ} {float float' : Float} {r : Chance.Outcome} → Bytes reading → code ≡ code_of (λ x. 0) (chance grammar heard reading shares)
-      → float' ≡ chance_after (chance grammar heard reading shares) float → r ≡ chance_of (chance grammar heard reading shares)
-      → ((x : Float) → r ≡ Chance.TheVariants.Product x → Shown grammar heard reading shares x)
+  pub chances : {code : ℤ} {float float' : Float} {r : R.Result Float Refusal} → Bytes reading → code ≡ code_of (λ x. 0) (chance grammar heard reading shares)
+      → float' ≡ chance_after (chance grammar heard reading shares) float → as_verdict r ≡ chance grammar heard reading shares
+      → ((x : Float) → r ≡ R.Ok x → Shown grammar heard reading shares x)
       → D.Chance grammar heard reading shares float code float'
-  chances {float = float} bytes e w told shown = record {
+  chances {float = float} {r = r} bytes e w told shown = record {
     due = check grammar heard reading;
     judgement = judged_so grammar heard reading bytes;
     demand_1 = asked_first (λ x. 0) (asked_chance grammar shares (check grammar heard reading)) (λ t. product_of one (shares_of shares (walk t)))
         (chance_asked grammar heard reading shares) (chance_row grammar heard reading shares) e
-        (λ t p q. (refl, (let is = w ∙ ap (λ v. chance_after v float) q in rw is (shown _ (told ∙ ap chance_of q)))))
+        (λ t p q. (refl, (let is = w ∙ ap (λ v. chance_after v float) q in rw is (shown _ (same_verdict r (R.Ok _) (told ∙ q))))))
         (λ n p. w ∙ rw p);
   }

@@ -3,7 +3,8 @@ use mathlib.Core.Bool.{Bool, true, false}
 use mathlib.Core.Logic.{⊎_elim}
 use mathlib.Core.Path.{◌≡◌, refl}
 use mathlib.Core.List.{List}
-use mathlib.Core.Option.{Option}
+use mathlib.Core.Option as O
+use mathlib.Core.Option.{Option, some}
 use Prim.Native.Nat.{ℕ, ◌*◌, ◌≤◌}
 use native.Mathlib.Omega.{arith}
 use lib.Dec.{ltb}
@@ -55,7 +56,8 @@ use Rattle.phrases.proofs.Least.{Property, LeastOrNone, nothing, first}
 use Rattle.specimen.specs.Conditions.{asked}
 use Rattle.specimen.proofs.Asked.{asked_out, asked_row}
 use Rattle.spireyerba.proofs.Searches.{Search}
-use Rattle.spireyerba.proofs.Codes.{Small, small_size, small_refusal, Wanted, as_long, no_string, refusal}
+use Rattle.specimen.specs.Specimen.{string_length}
+use Rattle.spireyerba.proofs.Codes.{Small, small_size, small_refusal}
 
 -- a result of at most 1,539
 data Short {A : Type 0} : Verdict (List A) → Type 0 where
@@ -167,19 +169,20 @@ small_utterance_sheet s t out =
     short (slots_short g.words u (utterance_block_out g.words t u f).0))))) (low_utterance_to_sheet s t out)
 
 -- the specimen and the next phrase: an accepted length is at most 24, and a string that is found has it
-found_wanted : {P : Property} {n : ℕ} {o : Option (List ℕ)} → ((s : List ℕ) → P s → length s ≡ n) → LeastOrNone P o → n ≤ 24 → Wanted n (accepted o)
-found_wanted f (nothing never) h = no_string
-found_wanted f (first {s} (p, l)) h = as_long (f s p) (omega arith)
+found_small : {P : Property} {n : ℕ} {o : Option (List ℕ)} → ((s : List ℕ) → P s → length s ≡ n) → LeastOrNone P o → n ≤ 24
+    → Small string_length (accepted o)
+found_small f (nothing never) h = small_size {a = O.none} (omega arith)
+found_small f (first {s} (p, l)) h = small_size {a = some s} (omega (arith, f s p))
 
 module _ (most : ℕ) (few : most ≤ 24) (s : List ℕ) (n out : ℕ) {find : Grammar → Option (List ℕ)} (search : Search n find) where
-  pub strings_wanted : Wanted n (asked most s n out then λ g. accepted (find g))
-  strings_wanted = go refl (low_asked most s n out)
+  pub strings_small : Small string_length (asked most s n out then λ g. accepted (find g))
+  strings_small = go refl (low_asked most s n out)
     where
-      go : {v : Verdict Grammar} → asked most s n out ≡ v → Refuses Low v → Wanted n (v then λ g. accepted (find g))
+      go : {v : Verdict Grammar} → asked most s n out ≡ v → Refuses Low v → Small string_length (v then λ g. accepted (find g))
       go e (granted {a = g}) =
           let (p, h, _) = asked_out most s n out g e in
-          found_wanted {P = search.Sought g} (search.as_long g) (search.least g (grammar_block_out s g p).0) (omega arith)
-      go e (denied {n = m} l) = refusal {m = m} (omega arith)
+          found_small {P = search.Sought g} (search.as_long g) (search.least g (grammar_block_out s g p).0) (omega arith)
+      go e (denied {n = m} l) = small_refusal {n = m} (omega arith)
 
 -- an answer whose code is 0
 answers_low : {A : Type 0} {v : Verdict A} → Refuses Low v → Small (λ a. 0) v

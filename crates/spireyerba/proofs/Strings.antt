@@ -15,17 +15,16 @@ use Rattle.packing.proofs.Refusals.{Refuses, granted, denied}
 use Rattle.packing.proofs.Whole.{grammar_block_out}
 use Rattle.phrases.proofs.Least.{LeastOrNone, nothing, first, least_unique}
 use Rattle.specimen.specs.Conditions.{asked}
-use Rattle.specimen.specs.Specimen.{specimen, output_of}
+use Rattle.specimen.specs.Specimen.{specimen, string_length, output_of}
 use Rattle.specimen.proofs.Asked.{asked_out, asked_row}
 use Rattle.next_phrase.specs.NextPhrase.{next}
 use Rattle.codes.specs.Code.{code_of}
-use Rattle.spireyerba.specs.Code.{string_length}
 use Rattle.spireyerba.specs.Demands as D
 use Rattle.codes.specs.Demand1.{Demand1, answers, refuses}
 use Rattle.spireyerba.specs.Demands.{LeastWritten}
-use Rattle.spireyerba.proofs.Codes.{Wanted}
+use Rattle.spireyerba.proofs.Codes.{Small}
 use Rattle.spireyerba.proofs.Searches.{Search, first_search, next_of, next_search}
-use Rattle.spireyerba.proofs.Small.{strings_wanted}
+use Rattle.spireyerba.proofs.Small.{strings_small}
 
 module _ (most : ℕ) (grammar : List ℕ) (n : ℕ) (out : List ℕ) {find : Grammar → Option (List ℕ)} (search : Search n find) where
   abbrev Answered : List ℕ → Verdict Grammar → ℤ → Type 0
@@ -71,9 +70,9 @@ module _ (most : ℕ) (grammar : List ℕ) (n : ℕ) (out : List ℕ) {find : Gr
       go (refuses p r u) = absurd (refused≢accepted (sym p ∙ due))
 
 -- the specimen
-pub specimen_wanted : (s : List ℕ) (n out : ℕ) → Wanted n (specimen s n out)
+pub specimen_small : (s : List ℕ) (n out : ℕ) → Small string_length (specimen s n out)
 unfolding specimen
-specimen_wanted s n out = strings_wanted 24 (omega arith) s n out (first_search n)
+specimen_small s n out = strings_small 24 (omega arith) s n out (first_search n)
 
 pub specifies : (grammar : List ℕ) (n : ℕ) (out : List ℕ) {code : ℤ} {out' : List ℕ} → code ≡ code_of string_length (specimen grammar n (length out))
     → out' ≡ output_of (specimen grammar n (length out)) out → D.Specimen grammar n out code out'
@@ -82,9 +81,9 @@ specifies grammar n out e w = record { demand_1 = strings_demand 24 grammar n ou
 
 -- the next phrase
 module _ (grammar : List ℕ) (n call : ℕ) (out : List ℕ) where
-  pub next_wanted : Wanted n (next grammar n call out)
+  pub next_small : Small string_length (next grammar n call out)
   unfolding next
-  next_wanted = strings_wanted 6 (omega arith) grammar n (length out) (next_search n call out)
+  next_small = strings_small 6 (omega arith) grammar n (length out) (next_search n call out)
 
   pub continues : {code : ℤ} {out' : List ℕ} → code ≡ code_of string_length (next grammar n call out) → out' ≡ output_of (next grammar n call out) out
       → D.NextPhrase grammar n call out code out'

@@ -1,7 +1,6 @@
 -- The answers of the services, as functions that can be run, as C numbers: 0 or more is the answer, less than 0 is minus the refusal's number. Nobody
 -- need believe this page: the exported functions' contracts have the equations with what is computed beside the records of Demands, which say what it means.
 use Rattle.std.specs.Prelude.{◌≡◌, List, ℕ, Float, ℤ, length}
-use Rattle.std.proofs.Math.Option.{Option, none, some}
 use Rattle.packing.specs.Parse.{Verdict, accepted, refused}
 use Rattle.derivation.specs.Derivation.{Tree}
 use Rattle.chart.specs.WorkTable.{work_after}
@@ -18,11 +17,6 @@ check_code v = code_of (λ t. 0) v
 abbrev pub chance_after : Verdict Float → Float → Float
 chance_after (accepted x) before = x
 chance_after (refused n) before = before
-
--- the specimen and the next phrase: the length of the string that was written, 0 for none
-abbrev pub string_length : Option (List ℕ) → ℕ
-string_length none = 0
-string_length (some s) = length s
 
 -- costs known within ranges
 abbrev pub ranges_code : Verdict Answer → ℤ

@@ -11,9 +11,9 @@ ghost use Rattle.listing.specs.Conditions.{library, panel};
 ghost use Rattle.listing.specs.Listing.{list, output_after};
 ghost use Rattle.cost_ranges.specs.CostRanges.{ranges};
 ghost use Rattle.word_margins.specs.WordMargins as again;
-ghost use Rattle.specimen.specs.Specimen.{specimen, output_of};
+ghost use Rattle.specimen.specs.Specimen.{specimen, string_length, output_of};
 ghost use Rattle.next_phrase.specs.NextPhrase.{next};
-ghost use Rattle.spireyerba.specs.Code.{check_code, chance_after, string_length, AnsweredAs, ListedAs, RangedAs};
+ghost use Rattle.spireyerba.specs.Code.{check_code, chance_after, AnsweredAs, ListedAs, RangedAs};
 ghost use Rattle.spireyerba.specs.Demands as demands;
 ghost use Rattle.open_listing.specs.Open.{opening, lent};
 ghost use Rattle.open_listing.specs.Model.{searched, next_of};
@@ -21,21 +21,19 @@ ghost use Rattle.open_calls.specs.OneByOne as onebyone;
 ghost use Rattle.open_calls.specs.OneByOne.{returned};
 ghost use Rattle.open_calls.specs.Model.{OpenedAs, CalledAs};
 
-use chance::Outcome;
-use codes::{checked_code, count, listed_code, refusal, written_code};
+use codes::{checked_code, counted_code, refusal};
 use cost_ranges::Ranged;
 use listing::listing_within;
 use listing_limits::PANEL;
 use open_calls::{next_call, open_call};
 use open_search::Place;
-use specimen::Answered;
 
 // The block of a grammar sheet, at the front of the output.
 pub fn spireyerba_grammar_to_block(sheet: &[u32], out: &mut [u8]) -> i32
     ensures answered_as { AnsweredAs length written (fitting (grammar_to_block sheet.now) out.old) out.old result out.new }
     ensures grammar_to_block { demands.GrammarToBlock sheet.now out.old result out.new }
 {
-    written_code(grammar_conversion::grammar_to_block(sheet, out))
+    counted_code(grammar_conversion::grammar_to_block(sheet, out))
 }
 
 // The sheet of a grammar block.
@@ -43,7 +41,7 @@ pub fn spireyerba_grammar_to_sheet(block: &[u8], out: &mut [u32]) -> i32
     ensures answered_as { AnsweredAs length written (fitting (grammar_to_sheet block.now) out.old) out.old result out.new }
     ensures grammar_to_sheet { demands.GrammarToSheet block.now out.old result out.new }
 {
-    written_code(grammar_conversion::grammar_to_sheet(block, out))
+    counted_code(grammar_conversion::grammar_to_sheet(block, out))
 }
 
 // The block of an office sheet, a grammar's with marks.
@@ -51,7 +49,7 @@ pub fn spireyerba_office_to_block(sheet: &[u32], out: &mut [u8]) -> i32
     ensures answered_as { AnsweredAs length written (fitting (office_to_block sheet.now) out.old) out.old result out.new }
     ensures office_to_block { demands.OfficeToBlock sheet.now out.old result out.new }
 {
-    written_code(office_block::office_to_block(sheet, out))
+    counted_code(office_block::office_to_block(sheet, out))
 }
 
 // The block of an utterance sheet under a grammar.
@@ -60,7 +58,7 @@ pub fn spireyerba_utterance_to_block(grammar: &[u8], sheet: &[u32], out: &mut [u
         out.new }
     ensures utterance_to_block { demands.UtteranceToBlock grammar.now sheet.now out.old result out.new }
 {
-    written_code(utterance_conversion::utterance_to_block(grammar, sheet, out))
+    counted_code(utterance_conversion::utterance_to_block(grammar, sheet, out))
 }
 
 // The sheet of an utterance block under a grammar.
@@ -69,7 +67,7 @@ pub fn spireyerba_utterance_to_sheet(grammar: &[u8], block: &[u8], out: &mut [u3
         out.new }
     ensures utterance_to_sheet { demands.UtteranceToSheet grammar.now block.now out.old result out.new }
 {
-    written_code(utterance_conversion::utterance_to_sheet(grammar, block, out))
+    counted_code(utterance_conversion::utterance_to_sheet(grammar, block, out))
 }
 
 // The readings of the least derivations, one after another at the front of the output: their number.
@@ -86,7 +84,7 @@ pub fn spireyerba_listing(
     ensures listing { demands.Listing grammar.now utterance.now wanted work.old out.old result work.new
         out.new }
 {
-    listed_code(listing::listing(grammar, utterance, wanted, work, out))
+    counted_code(listing::listing(grammar, utterance, wanted, work, out))
 }
 
 // The same within the limits of the panel for plan desks.
@@ -103,7 +101,7 @@ pub fn spireyerba_panel_listing(
     ensures panel_listing { demands.PanelListing grammar.now utterance.now wanted work.old out.old result work.new
         out.new }
 {
-    listed_code(listing_within(PANEL, grammar, utterance, wanted, work, out))
+    counted_code(listing_within(PANEL, grammar, utterance, wanted, work, out))
 }
 
 // Whether a reading passes the check: 0 if it does.
@@ -128,13 +126,12 @@ pub fn spireyerba_chance(
     ensures chance { demands.Chance grammar.now utterance.now reading.now shares.now chance.old result
         chance.new }
 {
-    let answer = chance::chance(grammar, utterance, reading, shares);
-    match answer {
-        Outcome::Product(x) => {
+    match chance::chance(grammar, utterance, reading, shares) {
+        Ok(x) => {
             *chance = x;
             0
         }
-        Outcome::Refused(n) => refusal(n),
+        Err(r) => refusal(r),
     }
 }
 
@@ -144,12 +141,7 @@ pub fn spireyerba_specimen(grammar: &[u8], wanted: u32, out: &mut [u8]) -> i32
         out.new }
     ensures specimen { demands.Specimen grammar.now wanted out.old result out.new }
 {
-    let answer = specimen::specimen(grammar, wanted, out);
-    match answer {
-        Answered::Written => count(wanted as usize),
-        Answered::Nothing => 0,
-        Answered::Refused(n) => refusal(n),
-    }
+    counted_code(specimen::specimen(grammar, wanted, out))
 }
 
 // A word string of the wanted length that the grammar derives: the least, or if `first` is 0 the least above the one at the front of the
@@ -159,12 +151,7 @@ pub fn spireyerba_next_phrase(grammar: &[u8], wanted: u32, first: u32, out: &mut
         out.new }
     ensures next_phrase { demands.NextPhrase grammar.now wanted first out.old result out.new }
 {
-    let answer = next_phrase::next_phrase(grammar, wanted, first, out);
-    match answer {
-        Answered::Written => count(wanted as usize),
-        Answered::Nothing => 0,
-        Answered::Refused(n) => refusal(n),
-    }
+    counted_code(next_phrase::next_phrase(grammar, wanted, first, out))
 }
 
 // How the first weight varies where costs are known within ranges, between those of two blocks: 0 where there is no derivation, else the least and the
@@ -182,20 +169,22 @@ pub fn spireyerba_cost_ranges(
     ensures cost_ranges { demands.CostRanges grammar.now low.now high.now work.old least.old
         greatest.old result work.new least.new greatest.new }
 {
-    let answer = cost_ranges::cost_ranges(grammar, low, high, work);
-    match answer {
-        Ranged::Nothing => 0,
-        Ranged::Outweighed(w) => {
-            *least = w.least;
-            *greatest = w.greatest;
-            1
-        }
-        Ranged::Stands(v) => {
-            *least = v.least;
-            *greatest = v.greatest;
-            2
-        }
-        Ranged::Refused(n) => refusal(n),
+    match cost_ranges::cost_ranges(grammar, low, high, work) {
+        // a match in the arm: of a pattern within another the proof does not learn the inner case
+        Ok(ranged) => match ranged {
+            Ranged::Nothing => 0,
+            Ranged::Outweighed(w) => {
+                *least = w.least;
+                *greatest = w.greatest;
+                1
+            }
+            Ranged::Stands(v) => {
+                *least = v.least;
+                *greatest = v.greatest;
+                2
+            }
+        },
+        Err(r) => refusal(r),
     }
 }
 
@@ -212,7 +201,7 @@ pub fn spireyerba_word_margins(
     ensures word_margins { demands.WordMargins grammar.now utterance.now work.old out.old result work.new
         out.new }
 {
-    listed_code(word_margins::word_margins(grammar, utterance, work, out))
+    counted_code(word_margins::word_margins(grammar, utterance, work, out))
 }
 
 // Opens a listing: 0, with the place of no readings handed out and the work table all zeros.
@@ -222,12 +211,7 @@ pub fn spireyerba_open(grammar: &[u8], utterance: &[u8], place: &mut Place, work
         × onebyone.Open grammar.now utterance.now place.old work.old
         (returned result place.new work.new) }
 {
-    let handed = place.handed;
-    let opened = place.opened;
-    let moved = open_call(grammar, utterance, work, handed, opened);
-    place.handed = moved.handed;
-    place.opened = moved.opened;
-    moved.code
+    open_call(grammar, utterance, place, work)
 }
 
 // One more reading of an open listing at the front of the output: 1, or 0 where there are no more and 2 where all that can be listed were handed
@@ -244,10 +228,5 @@ pub fn spireyerba_next(
         × onebyone.Next searched (lent grammar.now utterance.now place.old work.old out.old)
         (returned result place.new work.new) out.new }
 {
-    let handed = place.handed;
-    let opened = place.opened;
-    let moved = next_call(grammar, utterance, work, out, handed, opened);
-    place.handed = moved.handed;
-    place.opened = moved.opened;
-    moved.code
+    next_call(grammar, utterance, place, work, out)
 }

@@ -1,11 +1,12 @@
 -- The array that an utterance was read into gives back its fields, how many bits they take, its block and its sheet.
 -- Assumes nothing.
-use mathlib.Core.Path.{◌≡◌, refl, ap, subst}
+use mathlib.Core.Path.{◌≡◌, refl, sym, ap, subst}
 use mathlib.Core.List.{List, [], ◌∷◌, ◌++◌, map-append}
 use Prim.Native.Nat.{ℕ, suc, ◌+◌, ◌-◌, ◌*◌, ◌/◌, ◌≤◌}
 use native.Mathlib.Nat.{zero-mul, suc-mul, add-mul}
 use native.Mathlib.Omega.{arith}
 use lib.ListN.{length, take, length-append, length-map}
+use lib.Seq.{take-length}
 use Rattle.bits.specs.Width.{width_of}
 use Rattle.bits.specs.Fields.{widths}
 use Rattle.bits.proofs.Fields.{widths_append}
@@ -13,17 +14,17 @@ use Rattle.packing.specs.Meaning.{Candidate, candidate, Utterance}
 use Rattle.packing.specs.Parse.{Verdict, accepted, refused, ◌then◌}
 use Rattle.packing.specs.Source.{fld_of, flds}
 use Rattle.packing.specs.Utterance.{candidates_entries, slots_entries, utterance_entries, block_of_utterance, sheet_of_utterance}
-use Rattle.packing.specs.Flat.{Begins, slot_numbers, SlotsIn}
+use Rattle.packing.specs.Flat.{slot_numbers, SlotsIn}
 use Rattle.packing.proofs.Flat.{slots_of_lem}
 use Rattle.packing.proofs.Bounds.{length_candidates}
-use Rattle.utterance_reader.specs.Answer.{answer_of}
-use Rattle.utterance_reader.specs.declared.Slots.{Slots}
-use Rattle.utterance_reader.specs.declared.UtteranceRead as R
+use Rattle.packing.proofs.Parse.{accepted_is, refused≢accepted}
+use Rattle.utterance_reader.specs.Answer.{utterance_size}
+use Rattle.utterance_reader.specs.declared.UtteranceSize.{UtteranceSize}
 use Rattle.sheet_writer.specs.Arrays.{slots_fields, slots_bits, utterance_fields, block_of}
 
 module _ (W : ℕ) where
-  slots_in : (u : Utterance) (l : List ℕ) → Begins (slot_numbers W u) l → slots_fields W l 0 (length u) ≡ flds (slots_entries W u)
-  slots_in u l b = ap (λ (v : Utterance). flds (slots_entries W v)) (slots_of_lem W u l b)
+  slots_in : (u : Utterance) → slots_fields W (slot_numbers W u) 0 (length u) ≡ flds (slots_entries W u)
+  slots_in u = ap (λ (v : Utterance). flds (slots_entries W v)) (slots_of_lem W u (slot_numbers W u) (take-length (slot_numbers W u)))
 
   -- each slot has one number and three bits, and two numbers, and a word's and 16 bits, for each candidate
   candidates_bits : (cs : List Candidate) (least : ℕ) → widths (flds (candidates_entries W least cs)) ≡ length cs * (width_of (W - 1) + 16)
@@ -43,38 +44,32 @@ module _ (W : ℕ) where
         rw (map-append fld_of es (slots_entries W u), widths_append, candidates_bits cs 0, add-mul) (omega arith),
       )
 
-  pub slots_bits_lem : (u : Utterance) → (length u ≤ length (slot_numbers W u))
+  slots_bits_lem : (u : Utterance) → (length u ≤ length (slot_numbers W u))
       × (widths (flds (slots_entries W u)) ≡ slots_bits W (length u) (length (slot_numbers W u)))
   slots_bits_lem u =
       let (k, n, b) = counted u in
       let h : (length (slot_numbers W u) - length u) / 2 ≡ k = omega arith in
       (omega arith, rw h b)
 
-  -- what a reader's answer tells of what is to be written
-  pub refusal_told : (v : Verdict Utterance) (k : Utterance → Verdict (List ℕ)) {n : ℕ} → answer_of W v ≡ R.TheVariants.Refused n → (v then k) ≡ refused n
-  refusal_told (accepted u) k e = let z : ◌≡◌ {A = ℕ} 0 1 = cc in absurd (omega arith)
-  refusal_told (refused m) k e = cc
+  -- what a reader's answer tells of what is to be written, from the numbers l of the array
+  pub record Told (v : Verdict Utterance) (z : UtteranceSize) (l : List ℕ) : Type 0 where
+    pub size : (z.count ≤ length l) × (length l ≡ z.numbers)
+    pub bits : widths (slots_fields W l 0 z.count) ≡ slots_bits W z.count (length l)
+    pub block : (v then λ u. accepted (block_of_utterance W u)) ≡ accepted (block_of (utterance_fields W z.count l))
+    pub sheet : (v then λ u. accepted (sheet_of_utterance W u)) ≡ accepted ((z.count ∷ []) ++ l)
 
-  -- what holds of each accepted utterance holds of the slots answered
-  of_slots : (P : Slots → Type 0) (v : Verdict Utterance) {z : Slots} → answer_of W v ≡ R.TheVariants.Utterance z
-      → ((u : Utterance) → v ≡ accepted u → P (record { count = length u; numbers = length (slot_numbers W u) })) → P z
-  of_slots P (accepted u) {z} e h = let s : record { count = length u; numbers = length (slot_numbers W u) } ≡ z = cc in subst P s (h u refl)
-  of_slots P (refused m) e h = let z : ◌≡◌ {A = ℕ} 0 1 = cc in absurd (omega arith)
+  made : (u : Utterance) → Told (accepted u) (utterance_size W u) (slot_numbers W u)
+  unfolding block_of_utterance sheet_of_utterance utterance_entries
+  made u = record {
+    size = ((slots_bits_lem u).0, refl);
+    bits = rw (slots_in u) (slots_bits_lem u).1;
+    block = rw (slots_in u);
+    sheet = refl;
+  }
 
-  module _ (v : Verdict Utterance) {z : Slots} (e : answer_of W v ≡ R.TheVariants.Utterance z) (l : List ℕ) (b : SlotsIn W v l) where
-    pub bits_told : (z.count ≤ z.numbers) × (widths (slots_fields W l 0 z.count) ≡ slots_bits W z.count z.numbers)
-    bits_told =
-        of_slots (λ y. (y.count ≤ y.numbers) × (widths (slots_fields W l 0 y.count) ≡ slots_bits W y.count y.numbers)) v e
-        (λ u q. rw (slots_in u l (rw q at b)) (slots_bits_lem u))
-
-    pub block_told : (v then λ u. accepted (block_of_utterance W u)) ≡ accepted (block_of (utterance_fields W z.count l))
-    unfolding block_of_utterance utterance_entries
-    block_told =
-        of_slots (λ y. (v then λ u. accepted (block_of_utterance W u)) ≡ accepted (block_of (utterance_fields W y.count l))) v e
-        (λ u q. rw (q, slots_in u l (rw q at b)))
-
-    pub sheet_told : (v then λ u. accepted (sheet_of_utterance W u)) ≡ accepted ((z.count ∷ []) ++ take z.numbers l)
-    unfolding sheet_of_utterance utterance_entries
-    sheet_told =
-        of_slots (λ y. (v then λ u. accepted (sheet_of_utterance W u)) ≡ accepted ((y.count ∷ []) ++ take y.numbers l)) v e
-        (λ u q. rw (q, rw q at b))
+  pub told : (v : Verdict Utterance) {z : UtteranceSize} → accepted z ≡ (v then λ u. accepted (utterance_size W u)) → (l : List ℕ) → SlotsIn W v l
+      → Told v z (take z.numbers l)
+  told (accepted u) {z} e l b =
+      let s : utterance_size W u ≡ z = sym (accepted_is e) in
+      subst (λ (y : UtteranceSize). Told (accepted u) y (take y.numbers l)) s (subst (Told (accepted u) (utterance_size W u)) (sym b) (made u))
+  told (refused n) e l b = absurd (refused≢accepted (sym e))

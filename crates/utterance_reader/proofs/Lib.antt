@@ -1,4 +1,1 @@
-pub mod FieldInversion
 pub mod Utterances
-pub mod Answers
-pub mod BlockInversion

@@ -11,11 +11,12 @@ ghost use Rattle.sheet_writer.specs.Arrays.{candidates_fields, slots_fields, slo
 
 use arrays::{narrow_at, number_at};
 use bits::{MAX_WIDTH, width_below};
+use packing::format;
 use packing::format::{
     CANDIDATES_WIDTH, COST_WIDTH, MAX_SLOTS, MAX_WORDS, NUMBERS_PER_CANDIDATE, SLOTS_LENGTH,
     UTTERANCE_HEAD,
 };
-use packing::{Written, format, refused};
+use packing::refusal::Refusal;
 
 // At most as many bits as the slots of an utterance take: a count each, and words and costs wherever they have room for them.
 const MAX_SLOTS_WIDTH: usize = MAX_SLOTS * CANDIDATES_WIDTH
@@ -37,15 +38,13 @@ fn write_candidates(
 {
     let width = width_below(words as usize);
     let mut at = start;
-    let mut i: usize = 0;
-    while i < n {
+    for i in 0..n {
         let word = narrow_at(slots, p + NUMBERS_PER_CANDIDATE * i);
         bit_writer::write_field(out, at, width, word);
         at += width;
         let cost = narrow_at(slots, p + NUMBERS_PER_CANDIDATE * i + 1);
         bit_writer::write_field(out, at, COST_WIDTH, cost);
         at += COST_WIDTH;
-        i += 1;
     }
     at
 }
@@ -58,25 +57,24 @@ fn write_slots(out: &mut [u8], start: usize, slots: &[u32], n: usize, words: u32
 {
     let mut at = start;
     let mut p: usize = 0;
-    let mut i: usize = 0;
-    while i < n {
+    for i in 0..n {
         let count = number_at(slots, p);
         bit_writer::write_field(out, at, CANDIDATES_WIDTH, count as u32);
         at = write_candidates(out, at + CANDIDATES_WIDTH, slots, p + 1, count, words);
-        p = p + 1 + NUMBERS_PER_CANDIDATE * count;
-        i += 1;
+        p += 1 + NUMBERS_PER_CANDIDATE * count;
     }
 }
 
-// The length of the block of an utterance whose n slots have `numbers` numbers together.
-fn utterance_length(words: u32, n: usize, numbers: usize) -> usize
-    requires { (1 ≤ words) × (words ≤ MAX_WORDS) × (n ≤ MAX_SLOTS) × (n ≤ numbers) × (numbers ≤ SLOTS_LENGTH) }
-    ensures { result ≡ (UTTERANCE_HEAD + slots_bits words n numbers + 7) / 8 }
+// The length of the block of an utterance whose n slots are the numbers of `slots`.
+fn utterance_length(words: u32, n: usize, slots: &[u32]) -> usize
+    requires { (1 ≤ words) × (words ≤ MAX_WORDS) × (n ≤ MAX_SLOTS) × (n ≤ length slots.now) × (length slots.now ≤ SLOTS_LENGTH)
+        × (widths (slots_fields words slots.now 0 n) ≡ slots_bits words n (length slots.now)) }
+    ensures { result ≡ length (block_of (utterance_fields words n slots.now)) }
 {
     let width = width_below(words as usize);
-    let candidates = (numbers - n) / NUMBERS_PER_CANDIDATE;
-    let slots = CANDIDATES_WIDTH * n + candidates * (width + COST_WIDTH);
-    (UTTERANCE_HEAD + slots + 7) / 8
+    let candidates = (slots.len() - n) / NUMBERS_PER_CANDIDATE;
+    let bits = CANDIDATES_WIDTH * n + candidates * (width + COST_WIDTH);
+    (UTTERANCE_HEAD + bits).div_ceil(8)
 }
 
 // The block of an utterance whose n slots stand in an array, where there is room.
@@ -90,22 +88,22 @@ fn write_fields(out: &mut [u8], words: u32, n: usize, slots: &[u32])
     write_slots(out, UTTERANCE_HEAD, slots, n, words);
 }
 
-// The block of an utterance whose n slots are the first `numbers` numbers of an array, in front of what stands beyond it.
+// The block of an utterance whose n slots are the numbers of `slots`, in front of what stands beyond it.
+#[tactic(auto, unfolding(packing::specs::Conversion::fitting))]
 pub fn write_utterance(
     out: &mut [u8],
     words: u32,
     n: usize,
-    numbers: usize,
     slots: &[u32],
-) -> Written
-    requires { (1 ≤ words) × (words ≤ MAX_WORDS) × (n ≤ MAX_SLOTS) × (n ≤ numbers) × (numbers ≤ SLOTS_LENGTH)
-        × (widths (slots_fields words slots.now 0 n) ≡ slots_bits words n numbers) }
+) -> Result<usize, Refusal>
+    requires { (1 ≤ words) × (words ≤ MAX_WORDS) × (n ≤ MAX_SLOTS) × (n ≤ length slots.now) × (length slots.now ≤ SLOTS_LENGTH)
+        × (widths (slots_fields words slots.now 0 n) ≡ slots_bits words n (length slots.now)) }
     ensures { Writes (accepted (block_of (utterance_fields words n slots.now))) out.old result out.new }
 {
-    let length = utterance_length(words, n, numbers);
+    let length = utterance_length(words, n, slots);
     if out.len() < length {
-        return Written::Refused(refused::OUTPUT_SHORT);
+        return Err(Refusal::OutputShort);
     }
     write_fields(out, words, n, slots);
-    Written::Length(length)
+    Ok(length)
 }

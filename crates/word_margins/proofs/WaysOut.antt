@@ -29,9 +29,12 @@ use Rattle.packing.specs.Valid.{ValidGrammar, ValidUtterance}
 use Rattle.chart_table.specs.declared.Layout.{Layout}
 use Rattle.chart.specs.Chart.{lay_out}
 use Rattle.chart.specs.WorkTable.{table_size, work_after}
-use Rattle.inputs.specs.Answer.{listed_of, Lists}
-use Rattle.inputs.specs.declared.Listed.{Listed}
-use Rattle.inputs.specs.declared.Listed.TheVariants.{Found, Refused}
+use Rattle.inputs.specs.Answer.{Lists}
+use Rattle.std.specs.Prelude.{Result, Ok, Err}
+use Rattle.packing.specs.Read.{as_verdict}
+use Rattle.packing.specs.Refusal.{number}
+use Rattle.packing.specs.declared.refusal.Refusal.{Refusal}
+use Rattle.packing.specs.declared.refusal.Refusal.TheVariants.{ListingWork, OutputShort}
 use Rattle.one_best.specs.Model.{table_by}
 use Rattle.one_best.specs.declared.Pass.{Pass}
 use Rattle.one_best.proofs.Found.{pass_of}
@@ -44,7 +47,7 @@ use Rattle.word_margins.proofs.PassListed.{pass_list_lem, table_length}
 -- the ways out of inputs that were read
 module _ (rules array : List ℕ) (z : Inputs) (work out : List ℕ) where
   -- from what is due of the grammar and the utterance that they are of
-  read_due : {r : Listed} {work' out' : List ℕ}
+  read_due : {r : Result ℕ Refusal} {work' out' : List ℕ}
       → ((g : Grammar) (u : Utterance) → ValidGrammar g → ValidUtterance g.words u → z ≡ inputs_of (both g (slots u)) → Begins (rule_numbers g) rules
       → Begins (edge_numbers (edges u)) array → Lists work_after output_after (listed g u (length work) (length out)) work out r work' out')
       → ReadMargins rules array z work out r work' out'
@@ -57,14 +60,14 @@ module _ (rules array : List ℕ) (z : Inputs) (work out : List ℕ) where
       (k.sizes ∙ ap (λ (h : Heard). inputs_of (both g h)) same)
       (rules_begin k) (rw same at (edges_begin k)))
 
-  pub edges_short : length work < table_size z.sizes.symbols z.heard.last 1 → ReadMargins rules array z work out (Refused 22) work out
+  pub edges_short : length work < table_size z.sizes.symbols z.heard.last 1 → ReadMargins rules array z work out (Err ListingWork) work out
   unfolding listed margins_conditions
   edges_short short = read_due λ g u okg oku ez begun begun'.
       let short' : length work < table_size g.symbols (length u) 1 = rw ez at short in
       rw (lt-ltb _ _ short') (record { answer = refl; work_is = refl; output_is = refl })
 
   module _ (room : table_size z.sizes.symbols z.heard.last 1 ≤ length work) where
-    pub edges_narrow : length out < 4 * z.heard.edges → ReadMargins rules array z work out (Refused 43) work out
+    pub edges_narrow : length out < 4 * z.heard.edges → ReadMargins rules array z work out (Err OutputShort) work out
     unfolding listed margins_conditions
     edges_narrow short = read_due λ g u okg oku ez begun begun'.
         let room' : table_size g.symbols (length u) 1 ≤ length work = rw ez at room in
@@ -76,7 +79,7 @@ module _ (rules array : List ℕ) (z : Inputs) (work out : List ℕ) where
         → work' ≡ replicate (length work) 0 → length
         (table_by rules array (record { rules = z.sizes.rules; edges = z.heard.edges; table = d }) (length work)) ≡ length work
         → out' ≡ store_all out 0 (list_numbers (pass_list rules array (record { rules = z.sizes.rules; edges = z.heard.edges; table = d }) (length work)))
-        → ReadMargins rules array z work out (Found m) work' out'
+        → ReadMargins rules array z work out (Ok m) work' out'
     unfolding listed margins_conditions
     edges_listed wide {d} ed em ew kept eo = read_due λ g u okg oku ez begun begun'.
         let room' : table_size g.symbols (length u) 1 ≤ length work = rw ez at room in
@@ -91,15 +94,15 @@ module _ (rules array : List ℕ) (z : Inputs) (work out : List ℕ) where
         let n = numbers_length (margins_of g u) in
         let front = store_at out 0 (list_numbers (margins_of g u)) (omega arith) in
         let written = eo ∙ ap (λ (l : List M.MarginEntry). store_all out 0 (list_numbers l)) same ∙ front ∙ rw zero-add in
-        rw (le-ltb _ _ room', le-ltb _ _ wide') (record { answer = ap Found (em ∙ ap length same); work_is = ew; output_is = written })
+        rw (le-ltb _ _ room', le-ltb _ _ wide') (record { answer = ap accepted (em ∙ ap length same); work_is = ew; output_is = written })
       where
         pass_length : (p : Pass) → length (pass_list rules array p (length work)) ≤ p.edges
         pass_length p = table_length rules array p (length work)
 
 -- and of blocks that were not
 module _ (grammar utterance work out : List ℕ) where
-  pub not_read : {n : ℕ} → meant_by as_slots grammar utterance ≡ refused n
-      → Lists work_after output_after (margins grammar utterance (length work) (length out)) work out (Refused n) work out
+  pub not_read : {r : Refusal} → meant_by as_slots grammar utterance ≡ refused (number r)
+      → Lists work_after output_after (margins grammar utterance (length work) (length out)) work out (Err r) work out
   unfolding margins
   not_read e = rw (slots_refused grammar utterance (λ g u. listed g u (length work) (length out)) e)
       (record { answer = refl; work_is = refl; output_is = refl })
@@ -116,9 +119,10 @@ module _ (grammar utterance work out : List ℕ) where
       (margins_are g.words g u (utterance_block_out g.words utterance u q).0)
 
   -- what is due is what is meant
-  pub meant : {r : Listed} {work' out' : List ℕ} → Lists work_after output_after (margins grammar utterance (length work) (length out)) work out r work' out'
+  pub meant : {r : Result ℕ Refusal} {work' out' : List ℕ} → Lists work_after output_after (margins grammar utterance (length work)
+      (length out)) work out r work' out'
       → Lists work_after output_after (margins grammar utterance (length work) (length out)) work out r work' out'
-      × Meant grammar utterance work out (λ l. r ≡ listed_of (accepted l)) work' out'
+      × Meant grammar utterance work out (λ l. as_verdict r ≡ accepted (length l)) work' out'
   unfolding margins listed margins_conditions
   meant due = (
     due,

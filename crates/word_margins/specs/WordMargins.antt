@@ -19,7 +19,7 @@ listed g u work out = margins_conditions g u work out then λ b. accepted (margi
 unfoldable pub margins : List ℕ → List ℕ → ℕ → ℕ → Verdict (List M.MarginEntry)
 margins grammar utterance work out = grammar_block grammar then λ g. utterance_block g.words utterance then λ u. listed g u work out
 
--- "The answer is the number of entries", as the listing's is of readings (`listed_of`); "output beyond them is unchanged", and the work table
+-- "The answer is the number of entries", as the listing's is of readings (`counted`); "output beyond them is unchanged", and the work table
 -- is all zeros (`workAfter`); a refusal changes nothing
 abbrev pub output_after : Verdict (List M.MarginEntry) → List ℕ → List ℕ
 output_after (accepted l) out = list_numbers l ++ drop (length (list_numbers l)) out

@@ -4,12 +4,13 @@
 
 ghost use Rattle.std.specs.Prelude.{◌≡◌, ◌+◌, ◌*◌, ◌≤◌, ◌<◌, length, take, replicate};
 ghost use Rattle.packing.specs.Parse.{accepted};
+ghost use Rattle.packing.specs.Read.{as_verdict};
 ghost use Rattle.packing.specs.Flat.{rule_at, node_by, nodes_in};
 ghost use Rattle.inputs.specs.Inputs.{Bounds};
 ghost use Rattle.packing.specs.Store.{store_all};
 ghost use Rattle.chart_table.specs.Table.{Sized};
 ghost use Rattle.cost_changes.specs.Margins.{list_numbers};
-ghost use Rattle.inputs.specs.Answer.{listed_of, Lists};
+ghost use Rattle.inputs.specs.Answer.{Lists};
 ghost use Rattle.chart.specs.WorkTable.{work_after};
 ghost use Rattle.one_best.specs.Model.{Passable, table_by};
 ghost use Rattle.word_margins.specs.WordMargins.{margins, output_after, Meant};
@@ -17,14 +18,15 @@ ghost use Rattle.word_margins.specs.Model.{use_node, use_nodes, first_used, pass
 
 use arrays::{rule_at, store, wide, zero};
 use chart_table::Layout;
-use inputs::{Inputs, InputsRead, Listed, read_slot_inputs};
+use inputs::{Inputs, read_slot_inputs};
 use margin_entries::{NUMBERS_PER_ENTRY, put_entries};
 use one_best::Pass;
 use outside_weights::fill;
+use packing::Rule;
 use packing::format::{
     EDGES_LENGTH, MAX_CANDIDATES, MAX_SLOTS, NUMBERS_PER_NODE, RULES_LENGTH, TRACE_LENGTH,
 };
-use packing::{Rule, refused};
+use packing::refusal::Refusal;
 
 // The most edges of an utterance.
 const MOST_EDGES: usize = MAX_SLOTS * MAX_CANDIDATES;
@@ -38,23 +40,17 @@ const USED: u32 = 1;
 fn use_node(rules: &[u32], rule: u32, edge: u32, used: &mut [u32])
     ensures { used.new ≡ use_node used.old (node_by (rule_at rules.now rule) rule edge) }
 {
-    let kind = rule_at(rules, wide(rule));
-    match kind {
-        Rule::Pair(_, _, _, _) => {}
-        Rule::Word(_, _, _) => {
-            store(used, wide(edge), USED);
-        }
+    if let Rule::Word(..) = rule_at(rules, wide(rule)) {
+        store(used, wide(edge), USED);
     }
 }
 
-// Marks the edges of a tree, whose nodes are traced.
-fn use_nodes(rules: &[u32], trace: &[u32], nodes: usize, used: &mut [u32])
-    requires { (nodes ≤ 47) × (2 * nodes ≤ length trace.now) }
-    ensures { used.new ≡ use_nodes used.old (nodes_in rules.now (take (2 * nodes) trace.now)) }
+// Marks the edges of a tree, whose nodes are the trace.
+fn use_nodes(rules: &[u32], trace: &[u32], used: &mut [u32])
+    ensures { used.new ≡ use_nodes used.old (nodes_in rules.now trace.now) }
 {
-    for i in 0..nodes {
-        let p = NUMBERS_PER_NODE * i;
-        use_node(rules, trace[p], trace[p + 1], used);
+    for node in trace.chunks_exact(NUMBERS_PER_NODE) {
+        use_node(rules, node[0], node[1], used);
     }
 }
 
@@ -65,8 +61,7 @@ fn use_first(rules: &[u32], t: &[u32], d: Layout, used: &mut [u32])
 {
     let mut trace = [0u32; TRACE_LENGTH];
     let numbers = chart::trace_root(t, rules, d, 0, &mut trace);
-    let nodes = numbers / NUMBERS_PER_NODE;
-    use_nodes(rules, &trace, nodes, used);
+    use_nodes(rules, &trace[..numbers], used);
 }
 
 // The list, by a pass for one reading.
@@ -106,38 +101,41 @@ fn margins_read(
     inputs: Inputs,
     work: &mut [u32],
     out: &mut [u32],
-) -> Listed
+) -> Result<usize, Refusal>
     requires { Bounds inputs }
     ensures { ReadMargins rules.now edges.now inputs work.old out.old result work.new out.new }
 {
     let table = chart::lay_out(inputs.sizes.symbols as usize, inputs.heard.last, ONE);
     if work.len() < chart::table_numbers(table) {
-        return Listed::Refused(refused::LISTING_WORK);
+        return Err(Refusal::ListingWork);
     }
     if out.len() < NUMBERS_PER_ENTRY * inputs.heard.edges {
-        return Listed::Refused(refused::OUTPUT_SHORT);
+        return Err(Refusal::OutputShort);
     }
     let pass = Pass {
         rules: inputs.sizes.rules as usize,
         edges: inputs.heard.edges,
         table,
     };
-    Listed::Found(pass_margins(rules, edges, pass, work, out))
+    Ok(pass_margins(rules, edges, pass, work, out))
 }
 
 // The list of words to listen to again, of four numbers each, at the front of the output, and their number. The work table is all zeros
 // afterwards.
-pub fn word_margins(grammar: &[u8], utterance: &[u8], work: &mut [u32], out: &mut [u32]) -> Listed
+pub fn word_margins(
+    grammar: &[u8],
+    utterance: &[u8],
+    work: &mut [u32],
+    out: &mut [u32],
+) -> Result<usize, Refusal>
     ensures lists { Lists work_after output_after
         (margins grammar.now utterance.now (length work.old) (length out.old))
         work.old out.old result work.new out.new }
-    ensures meant { Meant grammar.now utterance.now work.old out.old (λ l. result ≡ listed_of (accepted l))
-        work.new out.new }
+    ensures meant { Meant grammar.now utterance.now work.old out.old
+        (λ l. as_verdict result ≡ accepted (length l)) work.new out.new }
 {
     let mut rules = [0u32; RULES_LENGTH];
     let mut edges = [0u32; EDGES_LENGTH];
-    match read_slot_inputs(grammar, utterance, &mut rules, &mut edges) {
-        InputsRead::Refused(n) => Listed::Refused(n),
-        InputsRead::Read(inputs) => margins_read(&rules, &edges, inputs, work, out),
-    }
+    let inputs = read_slot_inputs(grammar, utterance, &mut rules, &mut edges)?;
+    margins_read(&rules, &edges, inputs, work, out)
 }

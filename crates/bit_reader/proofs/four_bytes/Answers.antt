@@ -1,14 +1,24 @@
--- Two bytes and two more.
-use mathlib.Core.Path.{◌≡◌, sym}
-use Prim.Native.Nat.{◌+◌, ◌*◌}
+-- Four bytes, one after the other, are the field of all.
+use Prim.Native.Nat.{ℕ, ◌+◌, ◌<◌}
 use native.Mathlib.Omega.{arith}
-use borrow.Author.Rules.{rules}
-use Rattle.bits.specs.Bits.{bit_at}
-use Rattle.bits.proofs.Num.{num_append}
+use lib.ListN.{get_or}
+use Rattle.bits.proofs.Num.{field_byte, field_bytes}
 use Rattle.bit_reader.proofs.four_bytes.Goals as goal
 
 pub returns : goal.returns
 returns c =
-    let a = c.args in
-    let d : 8 * a.first + 16 ≡ 8 * (a.first + 2) = omega arith in
-    (rw (c.two_bytes.ensures.0, c.two_bytes-2.ensures.0, ← d) (sym (num_append (bit_at a.s.now) (8 * a.first) 16 16)), search rules)
+    let s = c.args.s.now in
+    let i = c.args.first in
+    let bytes : (k : ℕ) → get_or s k 0 < 256 = λ k. omega (arith, c.type_inv.s k) in
+    let r = c.from_be_bytes.ensures in
+    omega (
+      arith,
+      field_byte s bytes i,
+      field_bytes s bytes i 1,
+      field_bytes s bytes i 2,
+      field_bytes s bytes i 3,
+      bytes i,
+      bytes (i + 1),
+      bytes (i + 2),
+      bytes (i + 3),
+    )

@@ -1,9 +1,8 @@
 -- The field is the middle of the bytes that it touches, and of four bytes from its first on.
-use Prim.Native.Nat.{◌+◌, ◌-◌, ◌%◌, ◌/◌}
+use Prim.Native.Nat.{◌+◌, ◌-◌, ◌%◌}
 use native.Mathlib.Omega.{arith}
 use lib.Pow.{shr_le}
 use Rattle.bits.proofs.Num.{field_touched}
-use borrow.Author.Rules.{rules}
 use Rattle.bit_reader.proofs.read_field.Goals as goal
 
 pub overflow_cast-v : goal.overflow_cast-v
@@ -19,4 +18,4 @@ returns-then-at-s c =
 pub returns : goal.returns
 returns c =
     let a = c.args in
-    rw (c.lower-2.ensures, c.bytes_from-v.ensures) (field_touched a.s.now a.at a.width ((a.at % 8 + a.width + 7) / 8) (omega arith))
+    rw (c.lower-2.ensures, c.bytes_from-v.ensures) (field_touched a.s.now a.at a.width c.div_ceil-count.result (omega arith))

@@ -6,12 +6,11 @@ use Rattle.bits.specs.Put.{put}
 use Rattle.bits.proofs.Put.{put_append}
 use Rattle.bit_writer.proofs.write_field.Goals as goal
 
-pub returns-else-width-gt0 : goal.returns-else-width-gt0
+pub returns-then-width-eq0 : goal.returns-then-width-eq0
 unfolding put
-returns-else-width-gt0 c =
+returns-then-width-eq0 c =
     let a = c.args in
-    let z : a.width ≡ 0 = omega arith in
-    rw z refl
+    rw c.if-width-eq0.true refl
 
 pub returns-then-width-room-2 : goal.returns-then-width-room-2
 returns-then-width-room-2 c =

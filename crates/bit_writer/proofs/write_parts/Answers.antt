@@ -15,7 +15,7 @@ loop-done-preserved c =
     let a = c.args in (
       omega arith,
       omega arith,
-      put_more a.out.now a.at a.width a.value l.done c.least-part.result (omega arith) l.invariant.2 c.write_part.ensures,
+      put_more a.out.now a.at a.width a.value l.done c.min-part.result (omega arith) l.invariant.2 c.write_part.ensures,
     )
 
 pub returns : goal.returns

@@ -1,4 +1,4 @@
--- The leading zeros and the width of a number above 0 make 32; a number below 256 has a width of at most 8.
+-- The leading zeros and the width of a number above 0 make 64; a number below 256 has a width of at most 8.
 use mathlib.Core.Path.{◌≡◌, ap, sym, ◌∙◌}
 use Prim.Native.Nat.{ℕ, suc, ◌-◌, ◌^◌, ◌<◌}
 use native.Mathlib.Omega.{arith}
@@ -7,21 +7,18 @@ use Rattle.bits.specs.Width.{width_of, width_from}
 use Rattle.bits.proofs.Width.{width_le, width_top}
 use Rattle.bits.proofs.width_of.Goals as goal
 
-by_zeros : (x : ℕ) → 0 < x → x < 2 ^ 32 → 32 - count_leading_zeros 32 x ≡ width_of x
+by_zeros : (x : ℕ) → 0 < x → x < 2 ^ 32 → 64 - count_leading_zeros 64 x ≡ width_of x
 by_zeros x p h =
-    let t = leading_top 32 x p h in
-    let e : 32 - count_leading_zeros 32 x ≡ suc t.0 = omega (arith, t.1) in
+    let t = leading_top 64 x p (omega arith) in
+    let e : 64 - count_leading_zeros 64 x ≡ suc t.0 = omega (arith, t.1) in
     e ∙ width_top x t.0 h t.2 t.3
 
 pub returns-then-x-eq0 : goal.returns-then-x-eq0
 unfolding width_of width_from
 returns-then-x-eq0 c = (ap width_of (sym c.if-x-eq0.true), omega arith)
 
-pub overflow_cast-n : goal.overflow_cast-n
-overflow_cast-n c = omega arith
-
 pub overflow_sub-result : goal.overflow_sub-result
-overflow_sub-result c = leading_le 32 _
+overflow_sub-result c = leading_le 64 _
 
 pub overflow_cast-result : goal.overflow_cast-result
 overflow_cast-result c = omega arith

@@ -1,13 +1,8 @@
 -- The loop is the iteration over the ranks up to the last found; of a cell that is clear nothing is left to clear.
 use mathlib.Core.Path.{◌≡◌}
-use Prim.Native.Nat.{◌-◌, ◌≤◌}
-use lib.ListN.{length}
 use Rattle.packing.specs.Loop.{iter}
 use Rattle.chart_table.specs.Table.{clear_entry}
 use Rattle.chart_clearing.proofs.clear_cell.Given as goal
 
 abbrev pub invariant-loop-x : goal.invariant-loop-x
-invariant-loop-x l = (l.x ≤ l.m) × (length l.t ≡ length l.initial.t) × (l.t ≡ iter (λ u x. clear_entry u l.d l.number x) l.initial.t l.x)
-
-abbrev pub decreases-loop-x : goal.decreases-loop-x
-decreases-loop-x l = l.m - l.x
+invariant-loop-x l = l.t ≡ iter (λ u x. clear_entry u l.d l.number x) l.initial.t l.x

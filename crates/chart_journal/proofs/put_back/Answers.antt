@@ -4,7 +4,6 @@ use mathlib.Core.List.{List}
 use Prim.Native.Nat.{ℕ, zero, suc, ◌-◌, ◌<◌}
 use native.Mathlib.Omega.{arith}
 use Rattle.chart_journal.specs.Journal.{restore_entry, restore_all}
-use borrow.Author.Rules.{rules}
 use Rattle.chart_journal.proofs.put_back.Goals as goal
 
 restore_less : (k : List ℕ) (n : ℕ) (t : List ℕ) → 0 < n → restore_all k (n - 1) (restore_entry k (n - 1) t) ≡ restore_all k n t
@@ -16,22 +15,8 @@ none_left : (k : List ℕ) (n : ℕ) (t : List ℕ) → n ≡ 0 → t ≡ restor
 unfolding restore_all
 none_left k n t e = rw e refl
 
-pub loop-n-init : goal.loop-n-init
-loop-n-init c = (search rules, search rules, refl, refl)
-
-pub restore_entry-requires : goal.restore_entry-requires
-restore_entry-requires c = search (rules, c.loop-n.invariant)
-
-pub loop-n-preserved : goal.loop-n-preserved
-loop-n-preserved c = (
-  search (rules, c.loop-n.invariant),
-  c.loop-n.invariant.1,
-  c.restore_entry.auto.t ∙ c.loop-n.invariant.2,
-  rw c.restore_entry.ensures (restore_less _ _ _ (search rules) ∙ c.loop-n.invariant.3),
-)
-
-pub shape_of-t : goal.shape_of-t
-shape_of-t c = c.loop-n.invariant.2
+pub loop-x-preserved : goal.loop-x-preserved
+loop-x-preserved c = rw c.restore_entry.ensures (restore_less _ _ _ c.loop-x-test.true ∙ c.loop-x.invariant)
 
 pub returns : goal.returns
-returns c = none_left _ _ _ (omega (arith, c.loop-n-test.false)) ∙ c.loop-n.invariant.3 ∙ rw c.number_at-n.ensures.0
+returns c = none_left _ _ _ (omega (arith, c.loop-x-test.false)) ∙ c.loop-x.invariant ∙ rw c.number_at-x.ensures.0

@@ -8,7 +8,3 @@ use Rattle.chart_successors.proofs.least_initial.Goals as goal
 pub seeds-requires : goal.seeds-requires
 seeds-requires c =
     (c.requires, λ h. absurd (omega (arith, h)), rw (c.leaves-leaf.ensures, c.no_key.ensures) (leaves_below _ _ _ _ _ no_key))
-
-pub returns : goal.returns
-unfolding least_initial
-returns c = rw (c.seeds.ensures, c.leaves-leaf.ensures, c.no_key.ensures)

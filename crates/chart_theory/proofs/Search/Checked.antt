@@ -12,6 +12,8 @@ use native.Mathlib.Omega.{arith}
 use lib.Dec.{ltb, eqb}
 use lib.ListN.{length, get_or}
 use borrow.Author.Tests.{lt-ltb, ltb-true, eqb-true, eq-eqb, ne_eqb}
+use Rattle.std.specs.Prelude.{Some, None}
+use Rattle.std.specs.Prelude as P
 use Rattle.bits.specs.Bits.{pick}
 use Rattle.packing.specs.Meaning.{word, Grammar, Edge, edge}
 use Rattle.packing.specs.Flat.{rule_at}
@@ -31,7 +33,7 @@ use Rattle.chart_table.specs.Table.{left_part, right_part, cell_number, price_at
 use Rattle.chart_trace.specs.Checked.{edge_fits, leaf_of, any_leaf, leaf_in, node_in, checked_node, with_parts, node_weight, spelled_weight}
 use Rattle.chart_trace.specs.declared.checked.Scope.{Scope}
 use Rattle.chart_trace.specs.declared.checked.CheckedNode.{CheckedNode}
-use Rattle.chart_trace.specs.declared.checked.CheckedNode.TheVariants.{Leaf, Pairing, Wrong}
+use Rattle.chart_trace.specs.declared.checked.CheckedNode.TheVariants.{Leaf, Pairing}
 use Rattle.chart_theory.specs.Spelled.{FoundWith, EdgeNamed, Spelled, leaf_spelled, node_spelled}
 use Rattle.chart_theory.proofs.Table.Cells.{span, DerivesIn}
 use Rattle.chart_theory.proofs.Table.Entries.{found_test}
@@ -85,19 +87,19 @@ module _ {g : Grammar} {es : List Edge} {rules edges index : List ℕ} {d : Layo
       )
 
   -- what a node is that passes, in its cell and by its back pointer
-  data Passes (named : Bool) (c : Cell) (b : BackPointer) : CheckedNode → Type 0 where
+  data Passes (named : Bool) (c : Cell) (b : BackPointer) : P.Option CheckedNode → Type 0 where
     a_leaf : {x : W.Word} {w cost : ℕ} (e : ℕ) → At g.rules b.rule (Word c.head x w) → Offered es e (edge c.from c.to x cost)
-        → EdgeNamed named b e → Passes named c b (Leaf (w + cost))
-    a_pairing : {B C : Sym} {w : ℕ} → Splits g c B C b.rule w b.split → Passes named c b (Pairing B C w)
-    wrong : Passes named c b Wrong
+        → EdgeNamed named b e → Passes named c b (Some (Leaf (w + cost)))
+    a_pairing : {B C : Sym} {w : ℕ} → Splits g c B C b.rule w b.split → Passes named c b (Some (Pairing B C w))
+    wrong : Passes named c b None
 
   -- the leaf of an edge, if it fits, and else whatever passes
   module _ (named : Bool) (c : Cell) (b : BackPointer) {x : W.Word} {w : ℕ} (at : At g.rules b.rule (Word c.head x w)) where
-    edge_passes : (e : ℕ) → EdgeNamed named b e → {n : CheckedNode} → Passes named c b n
-        → Passes named c b (pick (edge_fits edges (length es) c e x) (leaf_of edges e w) n)
+    edge_passes : (e : ℕ) → EdgeNamed named b e → {n : P.Option CheckedNode} → Passes named c b n
+        → Passes named c b (pick (edge_fits edges (length es) c e x) (Some (leaf_of edges e w)) n)
     edge_passes e by {n} other = go (edge_fits edges (length es) c e x) refl
       where
-        go : (q : Bool) → edge_fits edges (length es) c e x ≡ q → Passes named c b (pick q (leaf_of edges e w) n)
+        go : (q : Bool) → edge_fits edges (length es) c e x ≡ q → Passes named c b (pick q (Some (leaf_of edges e w)) n)
         go true fits = a_leaf e at (edge_sound c e x fits) by
         go false fits = other
 
@@ -109,7 +111,7 @@ module _ {g : Grammar} {es : List Edge} {rules edges index : List ℕ} {d : Layo
     leaf_in_passes : Passes named c b (leaf_in edges (scope named) c b.left x w)
     leaf_in_passes = edge_passes b.left (own_edge named b) (go named refl)
       where
-        go : (q : Bool) → named ≡ q → Passes named c b (pick q Wrong (any_leaf edges (length es) c x w (length es)))
+        go : (q : Bool) → named ≡ q → Passes named c b (pick q None (any_leaf edges (length es) c x w (length es)))
         go true e = wrong
         go false e = any_passes e (length es)
 
@@ -118,7 +120,7 @@ module _ {g : Grammar} {es : List Edge} {rules edges index : List ℕ} {d : Layo
   rule_passes named c b (Pair h B C w) at = go (eqb h.0 c.head.0) (ltb c.from b.split) (ltb b.split c.to) refl refl refl
     where
       go : (p q r : Bool) → eqb h.0 c.head.0 ≡ p → ltb c.from b.split ≡ q → ltb b.split c.to ≡ r
-          → Passes named c b (pick p (pick q (pick r (Pairing B C w) Wrong) Wrong) Wrong)
+          → Passes named c b (pick p (pick q (pick r (Some (Pairing B C w)) None) None) None)
       go false q r e₁ e₂ e₃ = wrong
       go true false r e₁ e₂ e₃ = wrong
       go true true false e₁ e₂ e₃ = wrong
@@ -127,7 +129,7 @@ module _ {g : Grammar} {es : List Edge} {rules edges index : List ℕ} {d : Layo
           a_pairing (record { rule = rw head at at; after = ltb-true _ _ e₂; before = ltb-true _ _ e₃ })
   rule_passes named c b (Word h x w) at = go (eqb h.0 c.head.0) refl
     where
-      go : (p : Bool) → eqb h.0 c.head.0 ≡ p → Passes named c b (pick p (leaf_in edges (scope named) c b.left x w) Wrong)
+      go : (p : Bool) → eqb h.0 c.head.0 ≡ p → Passes named c b (pick p (leaf_in edges (scope named) c b.left x w) None)
       go false e = wrong
       go true e =
           let head = same_sym h c.head (eqb-true _ _ e) in
@@ -138,38 +140,41 @@ module _ {g : Grammar} {es : List Edge} {rules edges index : List ℕ} {d : Layo
   node_passes named c b = go (ltb b.rule (length g.rules)) refl
     where
       go : (p : Bool) → ltb b.rule (length g.rules) ≡ p
-          → Passes named c b (pick p (node_in edges (scope named) c b (rule_at rules b.rule)) Wrong)
+          → Passes named c b (pick p (node_in edges (scope named) c b (rule_at rules b.rule)) None)
       go false e = wrong
       go true e = rule_passes named c b (rule_at rules b.rule) (s.rule_at_lem b.rule (ltb-true _ _ e))
 
   -- an edge over the span with the rule's word makes the leaf, by whatever number it is looked for
   module _ (c : Cell) (r e : ℕ) {x : W.Word} {w cost : ℕ} (p : At g.rules r (Word c.head x w)) (q : Offered es e (edge c.from c.to x cost)) where
-    edge_leaf : (f : ℕ) {n : CheckedNode} → (f ≡ e) ⊎ (n ≡ Leaf (w + cost)) → pick (edge_fits edges (length es) c f x) (leaf_of edges f w) n ≡ Leaf (w + cost)
+    edge_leaf : (f : ℕ) {n : P.Option CheckedNode} → (f ≡ e) ⊎ (n ≡ Some (Leaf (w + cost)))
+        → pick (edge_fits edges (length es) c f x) (Some (leaf_of edges f w)) n ≡ Some (Leaf (w + cost))
     edge_leaf f {n} other = go (edge_fits edges (length es) c f x) refl other
       where
-        here : f ≡ e → leaf_of edges f w ≡ Leaf (w + cost)
+        here : f ≡ e → ◌≡◌ {A = P.Option CheckedNode} (Some (leaf_of edges f w)) (Some (Leaf (w + cost)))
         here same = rw (same, (edge_is s e q.0).costs)
 
-        go : (a : Bool) → edge_fits edges (length es) c f x ≡ a → (f ≡ e) ⊎ (n ≡ Leaf (w + cost)) → pick a (leaf_of edges f w) n ≡ Leaf (w + cost)
+        go : (a : Bool) → edge_fits edges (length es) c f x ≡ a → (f ≡ e) ⊎ (n ≡ Some (Leaf (w + cost)))
+            → pick a (Some (leaf_of edges f w)) n ≡ Some (Leaf (w + cost))
         go true fits o = here (s.one_edge c r f e (by_word_rule p (edge_sound c f x fits)) (by_word_rule p q))
         go false fits (inl same) = absurd (false≢true (sym fits ∙ rw same (edge_complete c e q)))
         go false fits (inr is) = is
 
-    any_complete : (n : ℕ) → e < n → any_leaf edges (length es) c x w n ≡ Leaf (w + cost)
+    any_complete : (n : ℕ) → e < n → any_leaf edges (length es) c x w n ≡ Some (Leaf (w + cost))
     unfolding any_leaf
     any_complete zero l = absurd (omega arith)
     any_complete (suc n) l = edge_leaf n (go (ℕ_discrete n e) (any_complete n))
       where
-        go : Dec (n ≡ e) → (e < n → any_leaf edges (length es) c x w n ≡ Leaf (w + cost)) → (n ≡ e) ⊎ (any_leaf edges (length es) c x w n ≡ Leaf (w + cost))
+        go : Dec (n ≡ e) → (e < n → any_leaf edges (length es) c x w n ≡ Some (Leaf (w + cost)))
+            → (n ≡ e) ⊎ (any_leaf edges (length es) c x w n ≡ Some (Leaf (w + cost)))
         go (yes same) below = inl same
         go (no other) below = inr (below (omega arith))
 
-    leaf_in_complete : (named : Bool) (b : BackPointer) → EdgeNamed named b e → leaf_in edges (scope named) c b.left x w ≡ Leaf (w + cost)
+    leaf_in_complete : (named : Bool) (b : BackPointer) → EdgeNamed named b e → leaf_in edges (scope named) c b.left x w ≡ Some (Leaf (w + cost))
     leaf_in_complete true b same = edge_leaf b.left (inl same)
     leaf_in_complete false b free = edge_leaf b.left (inr (any_complete (length es) (at_length es e q.0)))
 
   leaf_passes : (named : Bool) (c : Cell) (b : BackPointer) (e : ℕ) {x : W.Word} {w cost : ℕ} → At g.rules b.rule (Word c.head x w)
-      → Offered es e (edge c.from c.to x cost) → EdgeNamed named b e → checked_node rules edges (scope named) c b ≡ Leaf (w + cost)
+      → Offered es e (edge c.from c.to x cost) → EdgeNamed named b e → checked_node rules edges (scope named) c b ≡ Some (Leaf (w + cost))
   unfolding checked_node
   leaf_passes named c b e p q by =
       rw (
@@ -180,7 +185,7 @@ module _ {g : Grammar} {es : List Edge} {rules edges index : List ℕ} {d : Layo
       (leaf_in_complete c b.rule e p q named b by)
 
   pairing_passes : (named : Bool) (c : Cell) (b : BackPointer) {B C : Sym} {w : ℕ} → Splits g c B C b.rule w b.split
-      → checked_node rules edges (scope named) c b ≡ Pairing B C w
+      → checked_node rules edges (scope named) c b ≡ Some (Pairing B C w)
   unfolding checked_node
   pairing_passes named c b splits =
       rw (
@@ -228,7 +233,7 @@ module _ {g : Grammar} {es : List Edge} {rules edges index : List ℕ} {d : Layo
     parts_sound v (some x) none e = absurd (none≢some e)
     parts_sound v (some x) (some y) e = ((x, refl), (y, refl))
 
-    node_sound : (fuel : ℕ) → Sound fuel → (c : Cell) (x w : ℕ) (b : BackPointer) {n : CheckedNode} → FoundWith d t c x b → Passes named c b n
+    node_sound : (fuel : ℕ) → Sound fuel → (c : Cell) (x w : ℕ) (b : BackPointer) {n : P.Option CheckedNode} → FoundWith d t c x b → Passes named c b n
         → node_weight (spelled_weight t rules edges (scope named) d fuel) c b n ≡ some w → Spells c x
     node_sound fuel below c x w b found (a_leaf f p q by) e = (_, by_word_rule p q, leaf_spelled found by)
     node_sound fuel below c x w b found (a_pairing {B} {C} {w = v} splits) e =

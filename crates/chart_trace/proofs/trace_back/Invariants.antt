@@ -3,6 +3,7 @@
 use mathlib.Core.Path.{◌≡◌}
 use Prim.Native.Nat.{◌-◌, ◌*◌}
 use lib.ListN.{length}
+use Rattle.chart_trace.specs.RightParts.{pending}
 use Rattle.chart_trace.proofs.Pending.{trace_part, Tracing}
 use Rattle.chart_trace.proofs.trace_back.Given as goal
 
@@ -10,7 +11,7 @@ abbrev pub invariant-loop-first : goal.invariant-loop-first
 invariant-loop-first l =
     (length l.trace ≡ length l.initial.trace)
     × Tracing l.t l.rules l.d l.initial.part.cell.from l.initial.part.cell.to l.initial.trace
-    (trace_part l.t l.rules l.d l.initial.part) l.trace l.stack l.n l.part l.next
+    (trace_part l.t l.rules l.d l.initial.part) l.trace (pending l.pending) l.part l.numbers
 
 abbrev pub decreases-loop-first : goal.decreases-loop-first
-decreases-loop-first l = 2 * (l.initial.part.cell.to - l.part.cell.from) - l.n
+decreases-loop-first l = 2 * (l.initial.part.cell.to - l.part.cell.from) - length (pending l.pending)

@@ -1,39 +1,44 @@
 -- The array's rules are those of the grammar that was accepted; a slice of bytes has bytes, so the theorem of what passes holds.
-use mathlib.Core.Path.{sym, ap, ◌∙◌}
+use mathlib.Core.Path.{◌≡◌, sym, ◌∙◌}
 use native.Mathlib.Omega.{arith}
+use Rattle.std.proofs.Common.{Ok, Err, rules}
 use Rattle.packing.specs.Grammar.{grammar_block}
-use Rattle.grammar_reader.proofs.BlockInversion.{accepted_told, refused_told}
+use Rattle.packing.proofs.Told.{accepted_told, refused_told}
+use Rattle.grammar_reader.specs.Answer.{sizes}
 use Rattle.checker.specs.Check.{check}
-use Rattle.checker.specs.declared.Checked.TheVariants.{Refused}
-use Rattle.packing.proofs.Flat.{rules_of_lem}
-use Rattle.judgement.specs.Weighed.{walked_of}
-use Rattle.checker.specs.Run.{checked_by}
-use Rattle.checker.proofs.Runs.{passes_walked, under_rules_lem}
+use Rattle.checker.proofs.Runs.{passes_walked, refused_walked, walks_told}
 use Rattle.checker.proofs.Theorems.{promised}
 use Rattle.checker.proofs.check.Goals as goal
 
 pub check_heard-requires : goal.check_heard-requires
 check_heard-requires c =
-    let bounded = rw c.in-Grammar.is at c.read_block.ensures.2 in
+    let bounded = c.in_ok-sizes.ensures.2 in
     omega arith
 
-pub returns-in-Refused : goal.returns-in-Refused
+pub returns-in_err-sizes : goal.returns-in_err-sizes
 unfolding check
-returns-in-Refused c =
+returns-in_err-sizes c =
     let a = c.args in
-    let (value, variant) = promised a.grammar.now a.heard.now a.reading.now (λ i. (c.type_inv.reading i).fits) {r = Refused c.in-Refused.m}
-    (rw (refused_told (grammar_block a.grammar.now) c.read_block.ensures.0 c.in-Refused.is)) in
-    record { value = value; variant = variant }
+    let gone : c.from_residual.result ≡ Err c.in_err-sizes.field-0.0 = search rules in
+    let (value, variant) = promised a.grammar.now a.heard.now a.reading.now (λ i. (c.type_inv.reading i).fits) {r = Err c.in_err-sizes.field-0.0}
+    (rw (refused_told (grammar_block a.grammar.now) sizes c.in_err-sizes.ensures.0)) in
+    rw gone (record { value = value; variant = variant })
 
-pub returns-in-Grammar : goal.returns-in-Grammar
-returns-in-Grammar c =
+pub returns-in_err-check_heard : goal.returns-in_err-check_heard
+returns-in_err-check_heard c =
     let a = c.args in
-    let read = c.read_block in
-    let (g, p, z) = accepted_told (grammar_block a.grammar.now) read.ensures.0 c.in-Grammar.is in
-    let rules = rules_of_lem g read.new.rules (rw p at read.ensures.1) in
-    let (value, variant) = promised a.grammar.now a.heard.now a.reading.now (λ i. (c.type_inv.reading i).fits) {r = c.verdict.result}
-    (c.verdict.ensures
-    ∙ ap checked_by c.check_heard.ensures.0
-    ∙ rw (z, rules) (ap (λ v. checked_by (walked_of v)) (sym (under_rules_lem a.grammar.now a.heard.now a.reading.now g p))
-    ∙ passes_walked (check a.grammar.now a.heard.now a.reading.now))) in
+    let gone : c.from_residual-in_err-check_heard.result ≡ Err c.in_err-check_heard.field-0.0 = search rules in
+    let (g, p, z) = accepted_told (grammar_block a.grammar.now) sizes c.in_ok-sizes.ensures.0 in
+    let walks = walks_told a.grammar.now a.heard.now a.reading.now c.read_block.new.rules g c.in_ok-sizes.sizes p z c.read_block.ensures.1 in
+    let (value, variant) = promised a.grammar.now a.heard.now a.reading.now (λ i. (c.type_inv.reading i).fits) {r = Err c.in_err-check_heard.field-0.0}
+    (refused_walked (check a.grammar.now a.heard.now a.reading.now) (rw (← walks) at c.in_err-check_heard.ensures.0)) in
+    rw gone (record { value = value; variant = variant })
+
+pub returns : goal.returns
+returns c =
+    let a = c.args in
+    let (g, p, z) = accepted_told (grammar_block a.grammar.now) sizes c.in_ok-sizes.ensures.0 in
+    let walks = walks_told a.grammar.now a.heard.now a.reading.now c.read_block.new.rules g c.in_ok-sizes.sizes p z c.read_block.ensures.1 in
+    let (value, variant) = promised a.grammar.now a.heard.now a.reading.now (λ i. (c.type_inv.reading i).fits) {r = Ok tt}
+    (passes_walked (check a.grammar.now a.heard.now a.reading.now) (rw (← walks) at c.in_ok-check_heard.ensures.0)) in
     record { value = value; variant = variant }

@@ -1,7 +1,10 @@
 -- Each call's promise is a part of the model.
 use borrow.Author.Rules.{rules}
 use lib.ListN.{length}
-use Rattle.one_best.proofs.Trace.{trace_fits}
+use mathlib.Core.Path.{sym}
+use native.Mathlib.Omega.{arith}
+use Rattle.std.proofs.lemmas.List.{length-take-le}
+use Rattle.one_best.proofs.Trace.{trace_front, trace_fits}
 use Rattle.cost_ranges.proofs.PassesAnswer.{none_told, some_told}
 use Rattle.cost_ranges.proofs.passes.Goals as goal
 
@@ -39,7 +42,23 @@ has_least-stands-requires c =
     let p = c.requires in
     let fits = trace_fits c.enumerate-found.new.t a.rules.now a.pass.table p.0.some_place p.1 c.trace_root-numbers.ensures.1
     c.trace_root-numbers.ensures.0 in
-    (p.0, fits.0, fits.1)
+    (p.0, fits.1)
+
+pub slice_bounds-trace-end : goal.slice_bounds-trace-end
+slice_bounds-trace-end c =
+    let a = c.args in
+    let p = c.requires in
+    let fits = trace_fits c.enumerate-found.new.t a.rules.now a.pass.table p.0.some_place p.1 c.trace_root-numbers.ensures.1
+    c.trace_root-numbers.ensures.0 in
+    omega (arith, fits.0)
+
+pub slice_bounds-has_least-end : goal.slice_bounds-has_least-end
+slice_bounds-has_least-end c =
+    let a = c.args in
+    let p = c.requires in
+    let fits = trace_fits c.enumerate-found.new.t a.rules.now a.pass.table p.0.some_place p.1 c.trace_root-numbers.ensures.1
+    c.trace_root-numbers.ensures.0 in
+    sym (length-take-le _ _ fits.0)
 
 pub clear_table-requires-2 : goal.clear_table-requires-2
 clear_table-requires-2 c =
@@ -49,11 +68,12 @@ pub returns : goal.returns
 returns c =
     let a = c.args in
     let p = c.requires in
-    let told = some_told a.rules.now a.low.now a.high.now a.pass (length a.work.now) p.0.some_place p.1
+    let front = trace_front c.enumerate-found.new.t a.rules.now a.pass.table p.0.some_place p.1 c.trace_root-numbers.ensures.1
+    c.trace_root-numbers.ensures.0 in
+    let told = some_told a.rules.now a.low.now a.high.now a.pass (length a.work.now)
     c.first_weight-greatest.new.work
     c.enumerate-found.ensures.t_after c.enumerate-found.ensures.value.0 c.if-found-eq0.false c.root_weight-least.ensures
-    c.trace_root-numbers.ensures.0 c.trace_root-numbers.ensures.1
-    c.enumerate-found.auto.t c.first_weight-greatest.ensures.value c.first_weight-greatest.auto.work
+    front c.enumerate-found.auto.t c.first_weight-greatest.ensures.value c.first_weight-greatest.auto.work
     c.has_least-stands.ensures.value c.has_least-stands.ensures.work_after c.clear_table-2.ensures
     c.decide.ensures in
     record { value = told.0; work_after = told.1 }

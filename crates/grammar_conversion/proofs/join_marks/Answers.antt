@@ -4,19 +4,17 @@ use native.Mathlib.Omega.{arith}
 use Rattle.grammar_conversion.proofs.Joined.{rows_start, rows_turn, rows_end}
 use Rattle.grammar_conversion.proofs.join_marks.Goals as goal
 
-pub loop-i-init : goal.loop-i-init
-loop-i-init c =
-    (omega arith, refl, rows_start c.args.rules.now c.args.marks.now c.args.n c.args.joined.now)
+pub loop-r-init : goal.loop-r-init
+loop-r-init c = (refl, rows_start c.args.rules.now c.args.marks.now c.args.n c.args.joined.now)
 
-pub loop-i-preserved : goal.loop-i-preserved
-loop-i-preserved c = (
-  omega (arith, c.loop-i-test.true),
-  c.join_rule.auto.joined ∙ c.loop-i.invariant.1,
-  rows_turn c.args.rules.now c.args.marks.now c.args.n c.loop-i.i c.loop-i-test.true
-      c.loop-i.joined c.join_rule.ensures ∙ c.loop-i.invariant.2,
+pub loop-r-preserved : goal.loop-r-preserved
+loop-r-preserved c = (
+  c.join_rule.auto.joined ∙ c.loop-r.invariant.0,
+  rows_turn c.args.rules.now c.args.marks.now c.args.n c.loop-r.r c.loop-r-test.true
+      c.loop-r.joined c.join_rule.ensures ∙ c.loop-r.invariant.1,
 )
 
 pub returns : goal.returns
 returns c =
-    sym (rows_end c.args.rules.now c.args.marks.now c.args.n c.loop-i.i (omega (arith, c.loop-i-test.false))
-    c.loop-i.joined) ∙ c.loop-i.invariant.2
+    sym (rows_end c.args.rules.now c.args.marks.now c.args.n c.loop-r.r (omega (arith, c.loop-r-test.false))
+    c.loop-r.joined) ∙ c.loop-r.invariant.1

@@ -1,6 +1,4 @@
 -- The head takes 27 bits.
-use mathlib.Core.Path.{sym, ap, ◌∙◌}
-use Prim.Native.Nat.{ℕ, ◌+◌, ◌/◌}
 use native.Mathlib.Omega.{arith}
 use Rattle.bits.specs.Fields.{widths}
 use Rattle.bits.proofs.Fields.{length_block}
@@ -12,5 +10,5 @@ unfolding widths
 returns c =
     let a = c.args in
     let f = a.form in
-    λ marks. ap (λ (k : ℕ). (k + 7) / 8) (omega (arith, c.rules_bits.ensures.0 marks))
-    ∙ sym (length_block (grammar_fields f.marked f.symbols f.words f.rules a.rules.now marks))
+    λ marks.
+    omega (arith, c.rules_bits.ensures.0 marks, c.div_ceil.ensures, length_block (grammar_fields f.marked f.symbols f.words f.rules a.rules.now marks))

@@ -7,7 +7,7 @@ use Rattle.grammar_writer.proofs.Rules.{widths_more, rules_end}
 use Rattle.grammar_writer.proofs.rules_bits.Goals as goal
 
 pub loop-i-init : goal.loop-i-init
-loop-i-init c = (omega arith, omega arith, λ marks. rw sub-zero (omega arith))
+loop-i-init c = (omega arith, λ marks. rw sub-zero (omega arith))
 
 pub loop-i-preserved : goal.loop-i-preserved
 loop-i-preserved c =
@@ -15,11 +15,10 @@ loop-i-preserved c =
     let l = c.loop-i in
     let f = a.form in (
       omega arith,
-      omega arith,
       λ marks.
           let e = rw c.rule_at.ensures at (c.marked_bits-total.ensures.0 (get_or marks l.i 0)) in
           let m = widths_more f.marked f.symbols f.words a.rules.now marks f.rules l.i c.loop-i-test.true in
-          omega (arith, e, m, l.invariant.2 marks),
+          omega (arith, e, m, l.invariant.1 marks),
     )
 
 pub returns : goal.returns
@@ -28,6 +27,6 @@ returns c =
     let a = c.args in
     let l = c.loop-i in
     let f = a.form in (
-      λ marks. omega (arith, rw (rules_end f.marked f.symbols f.words a.rules.now marks f.rules l.i (omega arith)) at (l.invariant.2 marks)),
+      λ marks. omega (arith, rw (rules_end f.marked f.symbols f.words a.rules.now marks f.rules l.i (omega arith)) at (l.invariant.1 marks)),
       omega arith,
     )

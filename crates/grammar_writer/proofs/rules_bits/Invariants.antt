@@ -8,9 +8,6 @@ use Rattle.grammar_writer.proofs.rules_bits.Given as goal
 
 abbrev pub invariant-loop-i : goal.invariant-loop-i
 invariant-loop-i l =
-    (l.i ≤ l.n) × (l.total ≤ 42 * l.i)
-    × ((marks : List ℕ) → l.total + widths (rules_fields l.form.marked l.form.symbols l.form.words l.rules marks l.i (l.n - l.i))
-    ≡ widths (rules_fields l.form.marked l.form.symbols l.form.words l.rules marks 0 l.n))
-
-abbrev pub decreases-loop-i : goal.decreases-loop-i
-decreases-loop-i l = l.n - l.i
+    (l.total ≤ 42 * l.i)
+    × ((marks : List ℕ) → l.total + widths (rules_fields l.form.marked l.form.symbols l.form.words l.rules marks l.i (l.form.rules - l.i))
+    ≡ widths (rules_fields l.form.marked l.form.symbols l.form.words l.rules marks 0 l.form.rules))

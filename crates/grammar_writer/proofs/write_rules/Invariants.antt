@@ -6,9 +6,6 @@ use Rattle.grammar_writer.proofs.write_rules.Given as goal
 
 abbrev pub invariant-loop-i : goal.invariant-loop-i
 invariant-loop-i l =
-    (l.i ≤ l.n) × (l.at ≤ 27 + 42 * l.i)
-    × Remaining l.initial.out l.start (rules_fields l.form.marked l.form.symbols l.form.words l.rules l.marks 0 l.n) l.out l.at
-    (rules_fields l.form.marked l.form.symbols l.form.words l.rules l.marks l.i (l.n - l.i))
-
-abbrev pub decreases-loop-i : goal.decreases-loop-i
-decreases-loop-i l = l.n - l.i
+    (l.at ≤ 27 + 42 * l.i)
+    × Remaining l.initial.out l.start (rules_fields l.form.marked l.form.symbols l.form.words l.rules l.marks 0 l.form.rules) l.out l.at
+    (rules_fields l.form.marked l.form.symbols l.form.words l.rules l.marks l.i (l.form.rules - l.i))

@@ -1,13 +1,14 @@
 -- After i nodes the numbers and the stack hold the state that the run has come to, with no more parts than edges are left, and the rule
 -- numbers of the nodes stand in front.
-use mathlib.Core.Path.{refl, sym, ap, ◌∙◌}
+use mathlib.Core.Path.{refl, sym, ◌∙◌}
 use mathlib.Core.List.{List}
-use Prim.Native.Nat.{◌-◌, ◌*◌}
+use Prim.Native.Nat.{ℕ, ◌-◌, ◌*◌, ◌≤◌, ◌<◌}
 use native.Mathlib.Nat.{sub-zero}
 use native.Mathlib.Omega.{arith}
-use borrow.Author.Rules.{rules}
 use borrow.Author.Tests.{eq-eqb, ne_eqb}
-use lib.ListN.{length-set}
+use lib.ListN.{take, drop, length}
+use lib.Seq.{length-take-le}
+use Rattle.std.proofs.Common.{Some}
 use Rattle.packing.specs.declared.Rule as R
 use Rattle.packing.specs.Meaning.{Edge}
 use Rattle.packing.specs.Source.{bytes}
@@ -15,23 +16,17 @@ use Rattle.packing.specs.Flat.{rules_of, rule_at}
 use Rattle.packing.proofs.Flat.{by_rule}
 use Rattle.derivation.specs.Path.{State, path_weight}
 use Rattle.parse_stack.specs.Stack.{heads_of, standing}
-use Rattle.parse_stack.specs.declared.Step.TheVariants.{Onward}
+use Rattle.parse_stack.proofs.Heads.{chosen}
 use Rattle.graph_check.specs.Edges.{edges_of}
-use Rattle.graph_check.proofs.Kept.{kept_none, kept_more, kept_all}
-use Rattle.graph_check.proofs.Steps.{not_read, read_on, read_lost, all_read, at_end, not_at_end}
+use Rattle.graph_check.proofs.Kept.{kept_none, kept_more, kept_all, kept_either}
+use Rattle.graph_check.proofs.Steps.{not_read, read_on, read_lost, all_read, at_end}
 use Rattle.graph_check.proofs.weight_of.Goals as goal
+use Rattle.graph_check.proofs.weight_of.Goals.{then-at-eq0, else-at-eq0}
 
-pub overflow_mul-nodes : goal.overflow_mul-nodes
-overflow_mul-nodes c = omega arith
-
-pub overflow_sub-nodes : goal.overflow_sub-nodes
-overflow_sub-nodes c = omega arith
-
-pub loop-i-init : goal.loop-i-init
+pub loop-number-init : goal.loop-number-init
 unfolding path_weight heads_of
-loop-i-init c =
+loop-number-init c =
     let a = c.args in (
-      omega arith,
       refl,
       omega arith,
       omega arith,
@@ -39,135 +34,82 @@ loop-i-init c =
       omega arith,
       omega arith,
       rw sub-zero,
-      refl,
-      kept_none (rules_of a.rules.now a.count) (bytes 31 a.block.now) (2 * a.n - 1) a.walk.now 34,
+      kept_none (rules_of a.rules.now a.count) (bytes 31 a.block.now) (2 * a.n - 1) (take (2 * a.n - 1) a.walk.now) 34,
     )
 
-pub read_node-requires : goal.read_node-requires
-read_node-requires c = omega arith
-
-pub shape_of-walk-in_default : goal.shape_of-walk-in_default
-shape_of-walk-in_default c = omega arith
-
-pub returns-in_default : goal.returns-in_default
-returns-in_default c =
+pub returns-in_err-node : goal.returns-in_err-node
+returns-in_err-node c =
     let a = c.args in
-    let l = c.loop-i in
+    let l = c.loop-number in
     let rules : List R.Rule = rules_of a.rules.now a.count in
     let es : List Edge = edges_of a.edges.now a.graph.edges in
-    let from : State = standing l.stack (Onward l.at) in
-    let (n, p) = rw c.in_default.is at c.read_node.ensures in
-    (not_read rules es (bytes 31 a.block.now) a.graph.last (2 * a.n - 1) l.i from l.bit c.loop-i-test.true p ∙ l.invariant.7, tt)
+    let from : State = standing l.stack (Some l.at) in
+    let long = length-take-le (2 * a.n - 1) a.walk.now (omega arith) in
+    let more : l.number-index < 2 * a.n - 1 = omega arith in
+    let (n, p) = c.in_err-node.ensures in
+    rw c.from_residual.ensures
+    (not_read rules es (bytes 31 a.block.now) a.graph.last (2 * a.n - 1) l.number-index from l.bit more p ∙ l.invariant.6, tt)
 
-pub slice_bounds-follow-end : goal.slice_bounds-follow-end
-slice_bounds-follow-end c = omega arith
-
-pub follow-requires : goal.follow-requires
-follow-requires c =
-    let read = rw c.in-Node.is at c.read_node.ensures in
-    omega (arith, read.2, read.3)
-
-pub shape_of-walk-in_default-follow : goal.shape_of-walk-in_default-follow
-shape_of-walk-in_default-follow c = omega arith
-
-pub returns-in_default-follow : goal.returns-in_default-follow
-returns-in_default-follow c =
+pub returns-in_err-at : goal.returns-in_err-at
+returns-in_err-at c =
     let a = c.args in
-    let l = c.loop-i in
+    let l = c.loop-number in
     let rules : List R.Rule = rules_of a.rules.now a.count in
     let es : List Edge = edges_of a.edges.now a.graph.edges in
-    let from : State = standing l.stack (Onward l.at) in
-    let read = rw c.in-Node.is at c.read_node.ensures in
-    let next = sym (ap (standing c.follow.new.stack) c.in_default-follow.is) ∙ c.follow.ensures.0 in (
-      read_lost rules es (bytes 31 a.block.now) a.graph.last (2 * a.n - 1) l.i from l.bit c.loop-i-test.true _ read.0 next
-          ∙ l.invariant.7,
+    let from : State = standing l.stack (Some l.at) in
+    let long = length-take-le (2 * a.n - 1) a.walk.now (omega arith) in
+    let more : l.number-index < 2 * a.n - 1 = omega arith in
+    let read = c.in_ok-node.ensures in
+    rw c.from_residual-in_err-at.ensures (
+      read_lost rules es (bytes 31 a.block.now) a.graph.last (2 * a.n - 1) l.number-index from l.bit more _ read.0 c.in_err-at.ensures.0
+          ∙ l.invariant.6,
       tt,
     )
 
-pub overflow_cast-walk : goal.overflow_cast-walk
-overflow_cast-walk c =
-    let read = rw c.in-Node.is at c.read_node.ensures in
-    search (rules, read.2)
-
-pub offset_bounds-walk-i : goal.offset_bounds-walk-i
-offset_bounds-walk-i c = omega arith
-
-pub bounds-walk-i : goal.bounds-walk-i
-bounds-walk-i c = omega arith
-
-pub overflow_add-i : goal.overflow_add-i
-overflow_add-i c = omega arith
-
-pub loop-i-smaller : goal.loop-i-smaller
-loop-i-smaller c = omega arith
-
-pub loop-i-preserved : goal.loop-i-preserved
-loop-i-preserved c =
+pub loop-number-preserved : goal.loop-number-preserved
+loop-number-preserved c =
     let a = c.args in
-    let l = c.loop-i in
+    let l = c.loop-number in
     let rules : List R.Rule = rules_of a.rules.now a.count in
     let es : List Edge = edges_of a.edges.now a.graph.edges in
-    let from : State = standing l.stack (Onward l.at) in
-    let read = rw c.in-Node.is at c.read_node.ensures in
-    let next = sym (ap (standing c.follow.new.stack) c.in-Onward.is) ∙ c.follow.ensures.0 in
-    let more = read_on rules es (bytes 31 a.block.now) a.graph.last (2 * a.n - 1) l.i from l.bit c.loop-i-test.true read.0
-    next in
-    let further = rw c.in-Onward.is at c.follow.ensures.1 in
-    let kept = c.follow.auto.stack in
-    let x = c.in-Node.node in
-    let keeps = kept_more rules (bytes 31 a.block.now) (2 * a.n - 1) l.walk l.i l.bit c.loop-i-test.true
-    (omega (arith, l.invariant.8, c.requires)) read.0
+    let from : State = standing l.stack (Some l.at) in
+    let long = length-take-le (2 * a.n - 1) a.walk.now (omega arith) in
+    let more : l.number-index < 2 * a.n - 1 = omega arith in
+    let room : l.number-index < length l.number-items = omega arith in
+    let read = c.in_ok-node.ensures in
+    let further = c.in_ok-at.ensures.1 in
+    let x = c.in_ok-node.node in
+    let goes = read_on rules es (bytes 31 a.block.now) a.graph.last (2 * a.n - 1) l.number-index from l.bit more read.0 c.in_ok-at.ensures.0 in
+    let keeps = kept_more rules (bytes 31 a.block.now) (2 * a.n - 1) l.number-items l.number-index l.bit more room read.0
     (by_rule (rule_at a.rules.now x.rule) x.rule x.edge) in (
-      omega arith,
-      kept ∙ l.invariant.1,
+      c.follow.auto.stack ∙ l.invariant.0,
       omega arith,
       omega arith,
       omega arith,
       omega arith,
       omega (arith, read.1),
-      more ∙ l.invariant.7,
-      length-set l.walk l.i x.rule ∙ l.invariant.8,
-      keeps ∙ l.invariant.9,
+      goes ∙ l.invariant.6,
+      keeps ∙ l.invariant.7,
     )
-
-pub shape_of-walk-then-at-graph : goal.shape_of-walk-then-at-graph
-shape_of-walk-then-at-graph c = omega arith
-
-pub returns-then-at-graph : goal.returns-then-at-graph
-returns-then-at-graph c =
-    let a = c.args in
-    let l = c.loop-i in
-    let rules : List R.Rule = rules_of a.rules.now a.count in
-    let es : List Edge = edges_of a.edges.now a.graph.edges in
-    let from : State = standing l.stack (Onward l.at) in
-    let over = all_read rules es (bytes 31 a.block.now) a.graph.last (2 * a.n - 1) l.i from l.bit c.loop-i-test.false in
-    let end = at_end l.stack l.at a.graph.last c.if-at-eq0.true l.invariant.2 in
-    let all = kept_all rules (bytes 31 a.block.now) (2 * a.n - 1) l.walk l.i l.bit c.loop-i-test.false l.invariant.0 in
-    (sym (rw (eq-eqb l.at.place a.graph.last c.if-at-graph.true) at end) ∙ sym over ∙ l.invariant.7, (l.bit, sym l.invariant.9 ∙ all))
-
-pub shape_of-walk-then-at-eq0 : goal.shape_of-walk-then-at-eq0
-shape_of-walk-then-at-eq0 c = omega arith
-
-pub returns-then-at-eq0 : goal.returns-then-at-eq0
-returns-then-at-eq0 c =
-    let a = c.args in
-    let l = c.loop-i in
-    let rules : List R.Rule = rules_of a.rules.now a.count in
-    let es : List Edge = edges_of a.edges.now a.graph.edges in
-    let from : State = standing l.stack (Onward l.at) in
-    let over = all_read rules es (bytes 31 a.block.now) a.graph.last (2 * a.n - 1) l.i from l.bit c.loop-i-test.false in
-    let end = at_end l.stack l.at a.graph.last c.if-at-eq0.true l.invariant.2 in
-    (sym (rw (ne_eqb l.at.place a.graph.last c.if-at-graph.false) at end) ∙ sym over ∙ l.invariant.7, tt)
-
-pub shape_of-walk : goal.shape_of-walk
-shape_of-walk c = omega arith
 
 pub returns : goal.returns
 returns c =
     let a = c.args in
-    let l = c.loop-i in
+    let l = c.loop-number in
     let rules : List R.Rule = rules_of a.rules.now a.count in
     let es : List Edge = edges_of a.edges.now a.graph.edges in
-    let from : State = standing l.stack (Onward l.at) in
-    let over = all_read rules es (bytes 31 a.block.now) a.graph.last (2 * a.n - 1) l.i from l.bit c.loop-i-test.false in
-    (sym (not_at_end l.stack l.at a.graph.last c.if-at-eq0.false) ∙ sym over ∙ l.invariant.7, tt)
+    let from : State = standing l.stack (Some l.at) in
+    let long = length-take-le (2 * a.n - 1) a.walk.now (omega arith) in
+    let done : 2 * a.n - 1 ≤ l.number-index = omega arith in
+    let ended : l.number-index ≤ 2 * a.n - 1 = omega arith in
+    let over = all_read rules es (bytes 31 a.block.now) a.graph.last (2 * a.n - 1) l.number-index from l.bit done in
+    let end = at_end l.stack l.at a.graph.last l.invariant.1 in
+    let all = sym l.invariant.7 ∙ kept_all rules (bytes 31 a.block.now) (2 * a.n - 1) l.number-items l.number-index l.bit done ended in
+    let short : 2 * a.n - 1 ≤ length l.number-items = omega arith in
+    let rest : List ℕ = drop (2 * a.n - 1) a.walk.now in
+    elim c.if-at-eq0.branch [
+      | then-at-eq0 w ↦ let e = rw (eq-eqb l.at.left 0 w.if-at-eq0.true) at end in rw (c.then_some.ensures, w.then_some-is)
+          (chosen _ _ ∙ sym e ∙ sym over ∙ l.invariant.6, kept_either rules a.block.now (2 * a.n - 1) l.number-items rest _ _ l.bit short all)
+      | else-at-eq0 w ↦ let z = ne_eqb l.at.left 0 w.if-at-eq0.false in let e = rw z at end in rw (c.then_some.ensures, w.then_some-is, z)
+          (sym e ∙ sym over ∙ l.invariant.6, tt)
+    ]

@@ -13,19 +13,19 @@ pub returns-in-Pair : goal.returns-in-Pair
 returns-in-Pair c =
     let a = c.args in
     pair_written a.out.now a.at a.width a.rule a.edge
-    (pair_node a.rules.now a.rule a.edge c.rule_at-kind.ensures c.wide.ensures.0 c.in-Pair.is)
+    (pair_node a.rules.now a.rule a.edge c.rule_at.ensures c.wide.ensures.0 c.in-Pair.is)
     c.write_field.ensures (omega arith)
 
-pub write_field-requires-2 : goal.write_field-requires-2
-write_field-requires-2 c =
+pub write_field-requires-in-Word : goal.write_field-requires-in-Word
+write_field-requires-in-Word c =
     let a = c.args in
-    let node = word_node a.rules.now a.rule a.edge c.rule_at-kind.ensures c.wide.ensures.0 c.in-Word.is in
+    let node = word_node a.rules.now a.rule a.edge c.rule_at.ensures c.wide.ensures.0 c.in-Word.is in
     omega (arith, c.requires, word_room a.out.now a.at a.width a.rule a.edge node)
 
-pub returns : goal.returns
-returns c =
+pub returns-in-Word : goal.returns-in-Word
+returns-in-Word c =
     let a = c.args in
     word_written a.out.now a.at a.width a.rule a.edge
-    (word_node a.rules.now a.rule a.edge c.rule_at-kind.ensures c.wide.ensures.0 c.in-Word.is)
-    c.write_field.ensures c.write_field-2.ensures
+    (word_node a.rules.now a.rule a.edge c.rule_at.ensures c.wide.ensures.0 c.in-Word.is)
+    c.write_field.ensures c.write_field-in-Word.ensures
     (omega arith)

@@ -7,7 +7,8 @@ pub returns-then-shown-lt-SHOWN_NUMBERS : goal.returns-then-shown-lt-SHOWN_NUMBE
 returns-then-shown-lt-SHOWN_NUMBERS c =
     let a = c.args in
     let l = c.listing.ensures in
-    let told = no_room a.grammar.now a.heard.now a.work.now a.out.now a.shown.now c.if-shown-lt-SHOWN_NUMBERS.true l.lists.answer l.lists.work_is in
+    let told = no_room a.grammar.now a.heard.now a.work.now a.out.now a.shown.now c.listing.result c.if-shown-lt-SHOWN_NUMBERS.true l.lists.answer
+    l.lists.work_is in
     record { lists = told.0; told = told.1 }
 
 pub returns : goal.returns

@@ -1,38 +1,43 @@
 -- What both readers say of the blocks.
-use mathlib.Core.Path.{sym, ◌∙◌}
 use borrow.Author.Rules.{rules}
+use Rattle.packing.specs.Grammar.{marked_block}
 use Rattle.packing.specs.Heard.{heard_block}
-use Rattle.heard_reader.proofs.BlockInversion as heard
+use Rattle.packing.proofs.Told.{accepted_told, refused_told}
+use Rattle.grammar_reader.proofs.BlockInversion.{marked_told, marked_refused}
+use Rattle.heard_reader.specs.Answer.{heard_size}
 use Rattle.lines.proofs.Shapes.{no_grammar, no_heard, both_accepted}
 use Rattle.lines.proofs.shape_of.Goals as goal
 
 pub returns-in_default : goal.returns-in_default
 returns-in_default c =
     let a = c.args in
-    let r = c.read_marked_block-read in
-    no_grammar a.grammar.now a.utterance.now r.new.rules r.new.marks (sym r.ensures.answer ∙ c.in_default.is)
+    let r = c.read_marked_block.new in
+    no_grammar a.grammar.now a.utterance.now r.rules r.marks
+    (marked_refused (marked_block a.grammar.now) (rw c.in_default.is at c.read_marked_block.ensures.answer))
 
-pub read_heard-heard-requires : goal.read_heard-heard-requires
-read_heard-heard-requires c =
-    let b = rw c.in-Grammar.is at c.read_marked_block-read.ensures.bounds in
+pub read_heard-requires : goal.read_heard-requires
+read_heard-requires c =
+    let b = (rw c.in-Ok.is at c.read_marked_block.ensures).bounds in
     (b.some_word, b.words, search rules)
 
-pub returns-in_default-heard : goal.returns-in_default-heard
-returns-in_default-heard c =
+pub returns-in_default-read_heard : goal.returns-in_default-read_heard
+returns-in_default-read_heard c =
     let a = c.args in
-    let r = c.read_marked_block-read in
-    let W = c.in-Grammar.sizes.words in
-    no_heard a.grammar.now a.utterance.now r.new.rules r.new.marks (sym r.ensures.answer ∙ c.in-Grammar.is)
-    (heard.refused_told (heard_block W a.utterance.now) c.read_heard-heard.ensures.answer c.in_default-heard.is)
+    let r = c.read_marked_block.new in
+    let W = c.in-Ok.sizes.words in
+    let told = rw c.in-Ok.is at c.read_marked_block.ensures in
+    let (m, is, ez, _) = marked_told (marked_block a.grammar.now) told.answer in
+    no_heard a.grammar.now a.utterance.now r.rules r.marks m is ez
+    (refused_told (heard_block W a.utterance.now) heard_size (rw c.in_default-read_heard.is at c.read_heard.ensures.answer))
 
 pub returns : goal.returns
 returns c =
     let a = c.args in
-    let r = c.read_marked_block-read in
-    let W = c.in-Grammar.sizes.words in
-    let (h, w, y) = heard.accepted_told (heard_block W a.utterance.now) c.read_heard-heard.ensures.answer c.in-Heard.is in
-    let bounded = rw c.in-Grammar.is at r.ensures.bounds in
-    let sized = rw c.in-Heard.is at c.read_heard-heard.ensures.sized in
-    both_accepted a.grammar.now a.utterance.now r.new.rules r.new.marks (sym r.ensures.answer ∙ c.in-Grammar.is) h w y sized.0
-    sized.1
-    bounded.some_rule bounded.rules r.ensures.stands
+    let r = c.read_marked_block.new in
+    let W = c.in-Ok.sizes.words in
+    let told = rw c.in-Ok.is at c.read_marked_block.ensures in
+    let heard = rw c.in-Ok-read_heard.is at c.read_heard.ensures in
+    let (m, is, ez, _) = marked_told (marked_block a.grammar.now) told.answer in
+    let (h, v, y) = accepted_told (heard_block W a.utterance.now) heard_size heard.answer in
+    both_accepted a.grammar.now a.utterance.now r.rules r.marks m is ez h v y heard.sized.0 heard.sized.1
+    told.bounds.some_rule told.bounds.rules told.stands

@@ -1,5 +1,6 @@
 -- What is short decides between the refusal and the chart's table.
-use mathlib.Core.Path.{◌≡◌, refl, sym, ◌∙◌}
+use mathlib.Core.Path.{◌≡◌, refl}
+use Rattle.std.specs.Prelude.{Err}
 use native.Mathlib.Omega.{arith}
 use borrow.Author.Rules.{rules}
 use lib.ListN.{length}
@@ -11,21 +12,22 @@ use Rattle.listing.proofs.Sizes.{all_met}
 use Rattle.listing.proofs.WaysOut.{read_refused, read_found}
 use Rattle.listing.proofs.list_read.Goals as goal
 
-pub returns-then-refusal-ne0 : goal.returns-then-refusal-ne0
-returns-then-refusal-ne0 c =
+pub returns-in_err-shortage : goal.returns-in_err-shortage
+returns-in_err-shortage c =
     let a = c.args in
-    read_refused a.rules.now a.edges.now a.inputs a.asked a.work.now a.out.now c.form_of-form.ensures.0
-    c.shortage-refusal.ensures c.if-refusal-ne0.true
+    let gone : c.from_residual.result ≡ Err c.in_err-shortage.field-0.0 = search rules in
+    rw gone (read_refused a.rules.now a.edges.now a.inputs a.asked a.work.now a.out.now c.form_of-form.ensures.0 {r = c.in_err-shortage.field-0.0}
+    (c.in_err-shortage.ensures))
 
 pub lay_out-d-requires : goal.lay_out-d-requires
 lay_out-d-requires c =
-    let met = all_met _ _ _ _ _ _ (sym c.shortage-refusal.ensures ∙ c.if-refusal-ne0.false) in
+    let met = all_met _ _ _ _ _ _ (c.in_ok-shortage.ensures) in
     (c.requires.sizes.symbols, omega (arith, c.requires.places), met.positive, met.few)
 
 pub fill-requires : goal.fill-requires
 fill-requires c =
     let a = c.args in
-    let met = all_met _ _ _ _ _ _ (sym c.shortage-refusal.ensures ∙ c.if-refusal-ne0.false) in
+    let met = all_met _ _ _ _ _ _ (c.in_ok-shortage.ensures) in
     let (places, ranks) = layout_is a.inputs.sizes.symbols a.inputs.heard.last a.asked.wanted c.lay_out-d.ensures.0 in
     let form : FormFor library.slots a.inputs.heard.last c.form_of-form.result = rw c.form_of-form.ensures.0 (record {
       some_place = c.requires.some_place;
@@ -44,4 +46,4 @@ pub returns : goal.returns
 returns c =
     let a = c.args in
     read_found a.rules.now a.edges.now a.inputs a.asked a.work.now a.out.now c.form_of-form.ensures.0
-    (sym c.shortage-refusal.ensures ∙ c.if-refusal-ne0.false) c.lay_out-d.ensures.0 c.fill.ensures
+    (c.in_ok-shortage.ensures) c.lay_out-d.ensures.0 c.fill.ensures

@@ -2,25 +2,25 @@
 -- limits demand 3 is met.
 use Rattle.listing.proofs.WaysOut.{not_read}
 use Rattle.listing.proofs.Demand3.{promised}
+use mathlib.Core.Path.{◌≡◌}
+use Rattle.std.specs.Prelude.{Err}
 use borrow.Author.Rules.{rules}
 use Rattle.listing.proofs.listing_within.Goals as goal
 
 pub list_read-requires : goal.list_read-requires
-list_read-requires c =
-    let k = rw c.in-Read.is at c.read_inputs.ensures in
-    k.bounds
+list_read-requires c = (c.in_ok-inputs.ensures).bounds
 
-pub returns-in-Refused : goal.returns-in-Refused
-returns-in-Refused c =
+pub returns-in_err-inputs : goal.returns-in_err-inputs
+returns-in_err-inputs c =
     let a = c.args in
     let told = promised a.limits a.grammar.now a.heard.now a.wanted a.work.now a.out.now _ _ _
-    (not_read a.limits a.grammar.now a.heard.now a.wanted a.work.now a.out.now
-    (rw c.in-Refused.is at c.read_inputs.ensures)) in
-    record { lists = told.0; demand3 = told.1 }
+    (not_read a.limits a.grammar.now a.heard.now a.wanted a.work.now a.out.now {r = c.in_err-inputs.field-0.0} (c.in_err-inputs.ensures)) in
+    let gone : c.from_residual.result ≡ Err c.in_err-inputs.field-0.0 = search rules in
+    rw gone (record { lists = told.0; demand3 = told.1 })
 
-pub returns-in-Read : goal.returns-in-Read
-returns-in-Read c =
+pub returns : goal.returns
+returns c =
     let a = c.args in
-    let k = rw c.in-Read.is at c.read_inputs.ensures in
-    let told = promised a.limits a.grammar.now a.heard.now a.wanted a.work.now a.out.now _ _ _ (c.list_read.ensures _ _ _ _ k) in
+    let told = promised a.limits a.grammar.now a.heard.now a.wanted a.work.now a.out.now _ _ _
+    (c.list_read.ensures _ _ _ _ (c.in_ok-inputs.ensures)) in
     record { lists = told.0; demand3 = told.1 }

@@ -1,8 +1,7 @@
--- Each test of the code is one of the definition's.
+-- What is lent decides where all is within the limits.
 use mathlib.Core.Path.{◌≡◌}
 use Prim.Native.Nat.{ℕ, ◌*◌, ◌≤◌, ◌<◌}
 use native.Mathlib.Omega.{arith}
-use borrow.Author.Rules.{rules}
 use borrow.Author.Tests.{lt-ltb, le-ltb}
 use lib.Dec.{ltb}
 use Rattle.bits.specs.Bits.{pick}
@@ -20,43 +19,6 @@ within : (a : Asked) (S n L work out : ℕ) → n ≤ a.limits.slots → 1 ≤ a
 unfolding shortage
 within a S n L work out slots some many beyond =
     rw (le-ltb a.limits.slots n slots, le-ltb a.wanted 1 some, le-ltb 256 a.wanted many, le-ltb a.limits.readings a.wanted beyond)
-
-pub returns-then-asked-n : goal.returns-then-asked-n
-unfolding shortage
-returns-then-asked-n c = let a = c.args in rw (lt-ltb a.asked.limits.slots a.n c.if-asked-n.true)
-
-pub returns-then-wanted-lt1 : goal.returns-then-wanted-lt1
-unfolding shortage
-returns-then-wanted-lt1 c =
-    let at-if1 = c in
-    let a = at-if1.args in
-    rw (le-ltb a.asked.limits.slots a.n at-if1.if-asked-n.false, lt-ltb a.asked.wanted 1 c.if-wanted-lt1.true)
-
-pub returns-then-wanted-gt-MAX_WANTED : goal.returns-then-wanted-gt-MAX_WANTED
-unfolding shortage
-returns-then-wanted-gt-MAX_WANTED c =
-    let at-if2 = c in
-    let at-if1 = at-if2 in
-    let a = at-if1.args in
-    rw (
-      le-ltb a.asked.limits.slots a.n at-if1.if-asked-n.false,
-      le-ltb a.asked.wanted 1 at-if2.if-wanted-lt1.false,
-      lt-ltb 256 a.asked.wanted c.if-wanted-gt-MAX_WANTED.true,
-    )
-
-pub returns-then-asked-wanted : goal.returns-then-asked-wanted
-unfolding shortage
-returns-then-asked-wanted c =
-    let at-if3 = c in
-    let at-if2 = at-if3 in
-    let at-if1 = at-if2 in
-    let a = at-if1.args in
-    rw (
-      le-ltb a.asked.limits.slots a.n at-if1.if-asked-n.false,
-      le-ltb a.asked.wanted 1 at-if2.if-wanted-lt1.false,
-      le-ltb 256 a.asked.wanted at-if3.if-wanted-gt-MAX_WANTED.false,
-      lt-ltb a.asked.limits.readings a.asked.wanted c.if-asked-wanted.true,
-    )
 
 pub returns-then-work-table_numbers : goal.returns-then-work-table_numbers
 returns-then-work-table_numbers c =

@@ -12,8 +12,5 @@ overflow_cast-next-2 c = search (rules, trailing_le 32 (c.args.heads / 2 ^ c.arg
 pub overflow_add-next : goal.overflow_add-next
 overflow_add-next c = search (rules, trailing_le 32 (c.args.heads / 2 ^ c.args.from))
 
-pub returns-then-next-n : goal.returns-then-next-n
-returns-then-next-n c = (search rules, search rules, λ b h l. lacks_before 32 c.args.heads c.args.from b h (omega (arith, l)))
-
-pub returns-else-next-n : goal.returns-else-next-n
-returns-else-next-n c = (search rules, search rules, λ b h l. lacks_before 32 c.args.heads c.args.from b h (omega (arith, l)))
+pub returns : goal.returns
+returns c = (search rules, search rules, λ b h l. lacks_before 32 c.args.heads c.args.from b h (omega (arith, l)))

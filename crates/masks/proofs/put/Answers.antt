@@ -3,4 +3,4 @@ use Rattle.masks.proofs.Digits.{put_or}
 use Rattle.masks.proofs.put.Goals as goal
 
 pub returns : goal.returns
-returns c = rw (c.store.ensures, c.narrow_at.ensures) (put_or _ _ _ c.requires)
+returns c = put_or _ _ _ c.requires

@@ -17,12 +17,9 @@ returns-then-kind-eq-SYMBOL_ITEM c = (
 pub add_word-requires : goal.add_word-requires
 add_word-requires c = (
   c.requires.1,
-  c.requires.2,
-  c.requires.3,
-  c.requires.4,
   rw c.narrow_at-number.ensures (word_below (get_or c.args.sheet.now c.args.at 0)
       (get_or c.args.sheet.now (c.args.at + 1) 0) (λ e. c.if-kind-eq-SYMBOL_ITEM.false (c.narrow_at-kind.ensures ∙ e))
-      c.requires.5),
+      c.requires.2),
 )
 
 pub returns : goal.returns

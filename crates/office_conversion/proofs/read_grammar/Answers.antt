@@ -1,37 +1,29 @@
--- `office_conversion::read_grammar` meets its contract: the sheet, the pass, then 56.
-use mathlib.Core.Path.{subst}
+-- `office_conversion::read_grammar` meets its contract: the sheet, the conversion, then the limits.
 use native.Mathlib.Omega.{arith}
-use Rattle.office_reader.specs.Answer.{InBounds}
+use borrow.Author.Rules.{rules}
 use Rattle.office_conversion.proofs.Whole.{not_read, can_pass, many_symbols, many_rules, in_limits_lem}
 use Rattle.office_conversion.proofs.read_grammar.Goals as goal
+use Rattle.office_conversion.proofs.read_grammar.Goals.{
+  then-sizes-gt-MOST_SYMBOLS-via-then-sizes-gt-MOST_SYMBOLS,
+  then-sizes-gt-MOST_SYMBOLS-via-else-sizes-gt-MOST_SYMBOLS+then-sizes-gt-MOST_RULES,
+}
+
+pub returns-in_err-z : goal.returns-in_err-z
+returns-in_err-z c = not_read c.args.sheet.now c.from_residual.result _ (search rules) c.in_err-z.ensures.0
 
 pub convert-k-requires : goal.convert-k-requires
-convert-k-requires c =
-    let b = subst InBounds c.in-Office.is c.read_sheet.ensures.1 in
-    (b.some_symbol, b.symbols, b.rules, can_pass c.args.sheet.now c.read_sheet.ensures.0 c.in-Office.is)
+convert-k-requires c = can_pass c.args.sheet.now c.in_ok-z.ensures.0
 
-pub overflow_add-symbols : goal.overflow_add-symbols
-overflow_add-symbols c =
-    let b = subst InBounds c.in-Office.is c.read_sheet.ensures.1 in omega (arith, b.symbols, c.convert-k.ensures.few)
+pub returns-then-sizes-gt-MOST_SYMBOLS : goal.returns-then-sizes-gt-MOST_SYMBOLS
+returns-then-sizes-gt-MOST_SYMBOLS c =
+    elim c.then-sizes-gt-MOST_SYMBOLS.branch [
+      | then-sizes-gt-MOST_SYMBOLS-via-then-sizes-gt-MOST_SYMBOLS w ↦
+          many_symbols c.args.sheet.now c.in_ok-z.ensures.0 c.convert-k.ensures w.if-sizes-gt-MOST_SYMBOLS.true
+      | then-sizes-gt-MOST_SYMBOLS-via-else-sizes-gt-MOST_SYMBOLS+then-sizes-gt-MOST_RULES w ↦
+          many_rules c.args.sheet.now c.in_ok-z.ensures.0 c.convert-k.ensures (omega (arith, w.if-sizes-gt-MOST_SYMBOLS.false)) w.if-sizes-gt-MOST_RULES.true
+    ]
 
-pub overflow_add-count : goal.overflow_add-count
-overflow_add-count c =
-    let b = subst InBounds c.in-Office.is c.read_sheet.ensures.1 in omega (arith, b.rules, c.convert-k.ensures.few)
-
-pub returns-then-symbols-gt-MOST_SYMBOLS : goal.returns-then-symbols-gt-MOST_SYMBOLS
-returns-then-symbols-gt-MOST_SYMBOLS c =
-    many_symbols c.args.sheet.now c.read_sheet.ensures.0 c.in-Office.is c.convert-k.ensures c.if-symbols-gt-MOST_SYMBOLS.true
-
-pub returns-then-count-gt-MOST_RULES : goal.returns-then-count-gt-MOST_RULES
-returns-then-count-gt-MOST_RULES c =
-    many_rules c.args.sheet.now c.read_sheet.ensures.0 c.in-Office.is c.convert-k.ensures
-    (omega (arith, c.if-symbols-gt-MOST_SYMBOLS.false)) c.if-count-gt-MOST_RULES.true
-
-pub returns-in-Refused : goal.returns-in-Refused
-returns-in-Refused c =
-    not_read c.args.sheet.now c.read_sheet.ensures.0 c.args.rules.now c.in-Refused.is
-
-pub returns-else-count-gt-MOST_RULES : goal.returns-else-count-gt-MOST_RULES
-returns-else-count-gt-MOST_RULES c =
-    in_limits_lem c.args.sheet.now c.read_sheet.ensures.0 c.in-Office.is c.convert-k.ensures
-    (omega (arith, c.if-symbols-gt-MOST_SYMBOLS.false)) (omega (arith, c.if-count-gt-MOST_RULES.false)) c.requires
+pub returns : goal.returns
+returns c =
+    in_limits_lem c.args.sheet.now c.in_ok-z.ensures.0 c.convert-k.ensures
+    (omega (arith, c.if-sizes-gt-MOST_SYMBOLS.false)) (omega (arith, c.if-sizes-gt-MOST_RULES.false)) c.requires

@@ -5,22 +5,19 @@ use Rattle.office_reader.proofs.Likeness.{alike_start, alike_here, unlike_here, 
 use Rattle.office_reader.proofs.same_items.Goals as goal
 
 pub loop-i-init : goal.loop-i-init
-loop-i-init c = (omega arith, alike_start c.args.sheet.now c.args.p c.args.q c.args.n)
+loop-i-init c = alike_start c.args.sheet.now c.args.p c.args.q c.args.n
 
 pub loop-i-preserved : goal.loop-i-preserved
 loop-i-preserved c =
-    let at-args = c in (
-      omega arith,
-      sym (alike_here at-args.args.sheet.now at-args.args.p at-args.args.q at-args.args.n c.loop-i.i
-          c.loop-i-test.true c.same_item.ensures c.if-same_item.true) ∙ c.loop-i.invariant.1,
-    )
+    let a = c.args in
+    sym (alike_here a.sheet.now a.p a.q a.n c.loop-i.i c.loop-i-test.true c.same_item.ensures c.if-not-same_item.false) ∙ c.loop-i.invariant
 
-pub returns-else-same_item : goal.returns-else-same_item
-returns-else-same_item c =
-    sym (unlike_here c.args.sheet.now c.args.p c.args.q c.args.n c.loop-i.i
-    c.loop-i-test.true c.same_item.ensures c.if-same_item.false) ∙ c.loop-i.invariant.1
+pub returns-then-not-same_item : goal.returns-then-not-same_item
+returns-then-not-same_item c =
+    let a = c.args in
+    sym (unlike_here a.sheet.now a.p a.q a.n c.loop-i.i c.loop-i-test.true c.same_item.ensures c.if-not-same_item.true) ∙ c.loop-i.invariant
 
 pub returns : goal.returns
 returns c =
-    sym (alike_end c.args.sheet.now c.args.p c.args.q c.args.n c.loop-i.i (omega arith))
-    ∙ c.loop-i.invariant.1
+    let a = c.args in
+    sym (alike_end a.sheet.now a.p a.q a.n c.loop-i.i (omega arith)) ∙ c.loop-i.invariant

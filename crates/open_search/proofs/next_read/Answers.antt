@@ -33,7 +33,7 @@ first-requires c =
       c.requires,
       omega (arith, c.if-out-plan.false),
       front_fits a.plan c.requires c.table_numbers.ensures.0 (omega (arith, c.if-work-table_numbers.false)),
-      first_clear a.plan a.place a.work.now (sym c.seeks.ensures ∙ c.if-seeks.true) c.if-handed-eq0.true,
+      first_clear a.plan a.place a.work.now (sym c.seeks.ensures ∙ c.if-not-seeks.false) c.if-handed-eq0.true,
     )
 
 pub returns-then-handed-eq0 : goal.returns-then-handed-eq0
@@ -41,20 +41,20 @@ returns-then-handed-eq0 c =
     let a = c.args in
     first_call a.rules.now a.edges.now a.plan a.place a.work.now a.out.now c.table_numbers.ensures.0
     (omega (arith, c.if-work-table_numbers.false)) (omega (arith, c.if-out-plan.false)) (omega (arith, c.if-handed-ge-MOST_RANKS.false))
-    (sym c.seeks.ensures ∙ c.if-seeks.true) c.if-handed-eq0.true c.first.ensures
+    (sym c.seeks.ensures ∙ c.if-not-seeks.false) c.if-handed-eq0.true c.first.ensures
 
-pub returns-then-seeks : goal.returns-then-seeks
-returns-then-seeks c =
-    let a = c.args in
-    later_call a.rules.now a.edges.now a.plan a.place a.work.now a.out.now c.table_numbers.ensures.0
-    (omega (arith, c.if-work-table_numbers.false)) (omega (arith, c.if-out-plan.false)) (omega (arith, c.if-handed-ge-MOST_RANKS.false))
-    (sym c.seeks.ensures ∙ c.if-seeks.true) (omega (arith, c.if-handed-eq0.false)) c.later.ensures
-
-pub returns : goal.returns
-returns c =
+pub returns-then-not-seeks : goal.returns-then-not-seeks
+returns-then-not-seeks c =
     let a = c.args in
     let told = c.as_spelled.ensures in
     unsought_call a.rules.now a.edges.now a.plan a.place a.work.now a.out.now c.table_numbers.ensures.0
     (omega (arith, c.if-work-table_numbers.false)) (omega (arith, c.if-out-plan.false)) (omega (arith, c.if-handed-ge-MOST_RANKS.false))
-    (sym c.seeks.ensures ∙ c.if-seeks.false)
+    (sym c.seeks.ensures ∙ c.if-not-seeks.true)
     (as_it_stands a.rules.now a.edges.now a.plan a.work.now a.out.now a.place.handed told.0 told.1)
+
+pub returns : goal.returns
+returns c =
+    let a = c.args in
+    later_call a.rules.now a.edges.now a.plan a.place a.work.now a.out.now c.table_numbers.ensures.0
+    (omega (arith, c.if-work-table_numbers.false)) (omega (arith, c.if-out-plan.false)) (omega (arith, c.if-handed-ge-MOST_RANKS.false))
+    (sym c.seeks.ensures ∙ c.if-not-seeks.false) (omega (arith, c.if-handed-eq0.false)) c.later.ensures

@@ -1,8 +1,8 @@
 -- At an opened place a first call asks whether the table's front is zeros.
 use mathlib.Core.Path.{sym}
+use borrow.Author.Tests.{ne_eqb}
 use lib.Seq.{length-take-le}
 use Rattle.open_search.proofs.Sought.{unopened, at_first, at_later}
-use borrow.Author.Rules.{rules}
 use Rattle.open_search.proofs.seeks.Goals as goal
 
 pub returns-then-place-ne-OPENED : goal.returns-then-place-ne-OPENED
@@ -10,16 +10,15 @@ returns-then-place-ne-OPENED c =
     let a = c.args in
     unopened a.plan a.place a.work.now c.if-place-ne-OPENED.true
 
-pub slice_bounds-all_zero-end : goal.slice_bounds-all_zero-end
-slice_bounds-all_zero-end c =
-    sym (length-take-le _ _ c.requires.1)
-
-pub returns-then-place-eq0 : goal.returns-then-place-eq0
-returns-then-place-eq0 c =
+pub returns-then-place-ne0 : goal.returns-then-place-ne0
+returns-then-place-ne0 c =
     let a = c.args in
-    at_first a.plan a.place a.work.now c.if-place-ne-OPENED.false c.if-place-eq0.true c.all_zero.ensures
+    rw (ne_eqb a.place.handed 0 c.if-place-ne0.true) (at_later a.plan a.place a.work.now c.if-place-ne-OPENED.false c.if-place-ne0.true)
 
-pub returns : goal.returns
-returns c =
+pub slice_bounds-zeroed-end : goal.slice_bounds-zeroed-end
+slice_bounds-zeroed-end c = sym (length-take-le _ _ c.requires.1)
+
+pub returns-else-place-ne0 : goal.returns-else-place-ne0
+returns-else-place-ne0 c =
     let a = c.args in
-    at_later a.plan a.place a.work.now c.if-place-ne-OPENED.false c.if-place-eq0.false
+    at_first a.plan a.place a.work.now c.if-place-ne-OPENED.false c.if-place-ne0.false c.zeroed.ensures

@@ -1,7 +1,6 @@
 -- The whole bytes that the field needs are there exactly when its bits are.
 use Prim.Native.Nat.{◌+◌}
 use lib.ListN.{length}
-use borrow.Author.Rules.{rules}
 use Rattle.bits.proofs.Num.{bytes_have}
 use Rattle.packing.proofs.has_field.Goals as goal
 

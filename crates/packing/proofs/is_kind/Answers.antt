@@ -17,8 +17,8 @@ unfolding num
 empty_kind [] kind k e = sym (ne_eqb 0 kind (λ z. omega arith))
 empty_kind (x ∷ s) kind k e = absurd (omega arith)
 
-pub returns-then-block-eq0 : goal.returns-then-block-eq0
-returns-then-block-eq0 c = let s = c in empty_kind s.args.block.now s.args.kind s.requires c.if-block-eq0.true
+pub returns-then-is_empty : goal.returns-then-is_empty
+returns-then-is_empty c = let s = c in empty_kind s.args.block.now s.args.kind s.requires (search rules)
 
 pub returns : goal.returns
 returns c = ap (λ (v : ℕ). eqb v c.args.kind) c.read_field.ensures

@@ -1,65 +1,50 @@
 -- After i turns the rule numbers read stand in front, and what is left of the walk is read from the loop's place.
-use mathlib.Core.Path.{refl, sym, ap, ◌∙◌}
-use Prim.Native.Nat.{◌-◌, ◌*◌}
-use native.Mathlib.Nat.{sub-zero}
+use mathlib.Core.Path.{◌≡◌, refl, sym, ◌∙◌}
+use Prim.Native.Nat.{◌-◌, ◌*◌, ◌<◌, ◌≤◌}
 use native.Mathlib.Omega.{arith}
-use lib.ListN.{length-set}
+use lib.ListN.{length, take}
 use lib.Seq.{length-take-le}
-use Rattle.packing.specs.Source.{bytes, field_at}
-use Rattle.packing.specs.Read.{refusal_of}
-use Rattle.packing.specs.Reading.{rule_number}
-use Rattle.packing.proofs.Parse.{number_out, refused_out}
-use Rattle.packing.proofs.Bounds.{field_at_next}
-use Rattle.packing.proofs.Widths.{byte_width}
-use Rattle.reading_reader.specs.Answer.{head_from}
-use Rattle.reading_reader.specs.declared.ReadingRead.TheVariants.{Refused}
-use Rattle.reading_reader.proofs.Reading.{head_failed, head_parsed, head_place, walk_end, walk_failed, walk_more}
+use Rattle.std.proofs.Common.{Err, rules}
+use Rattle.std.proofs.lemmas.List.{take-append-le}
+use Rattle.reading_reader.proofs.Reading.{read_behind, walk_end, walk_failed, walk_more}
 use Rattle.reading_reader.proofs.read_reading.Goals as goal
 
-pub returns-in_default : goal.returns-in_default
-returns-in_default c =
+pub returns-in_err-number : goal.returns-in_err-number
+returns-in_err-number c =
     let a = c.args in
     let s = a.block.now in
-    let h = refused_out (head_from a.n s) (sym c.read_head-head.ensures ∙ c.in_default.is) in
-    rw (head_failed a.n a.rules s h) (ap Refused (c.refusal.ensures ∙ ap refusal_of c.in_default.is), tt, tt)
+    let l = c.loop-number in
+    let long = length-take-le (2 * a.n - 1) a.walk.now (omega arith) in
+    let more : l.number-index < 2 * a.n - 1 = omega arith in
+    let gone : c.from_residual-in_err-number.result ≡ Err c.in_err-number.field-0.0 = search rules in
+    let f = walk_failed a.rules s (2 * a.n - 1) l.number-index l.at l.number-items more c.in_err-number.ensures.value in
+    let h = read_behind a.n a.rules s c.in_ok-at.ensures.value c.in_ok-at-2.ensures.value c.in_ok-weight.ensures.value
+    (sym (rw long at l.invariant.1) ∙ f) in
+    rw (gone, h) (refl, tt, tt)
 
-pub loop-i-init : goal.loop-i-init
-loop-i-init c =
+pub loop-number-preserved : goal.loop-number-preserved
+loop-number-preserved c =
     let a = c.args in
-    let s = a.block.now in
-    let h = number_out (head_from a.n s) (sym c.read_head-head.ensures ∙ c.in-Number.is) in
-    (omega arith, refl, head_place a.n s h, rw sub-zero)
-
-pub returns-in_default-found : goal.returns-in_default-found
-returns-in_default-found c =
-    let a = c.args in
-    let s = a.block.now in
-    let l = c.loop-i in
-    let h = number_out (head_from a.n s) (sym c.read_head-head.ensures ∙ c.in-Number.is) in
-    let e = refused_out (field_at (bytes 31 s) l.at (rule_number a.rules)) (sym c.read_number-found.ensures ∙ c.in_default-found.is) in
-    let f = walk_failed a.rules s (2 * a.n - 1) l.i l.at l.walk c.loop-i-test.true e in
-    rw (head_parsed a.n a.rules s h (sym l.invariant.3 ∙ f)) (ap Refused (c.refusal-in_default-found.ensures ∙ ap refusal_of c.in_default-found.is), tt, tt)
-
-pub loop-i-preserved : goal.loop-i-preserved
-loop-i-preserved c =
-    let a = c.args in
-    let s = a.block.now in
-    let l = c.loop-i in
-    let e = number_out (field_at (bytes 31 s) l.at (rule_number a.rules)) (sym c.read_number-found.ensures ∙ c.in-Number-found.is) in
-    let w = byte_width a.rules (omega arith) in
-    let n = field_at_next (rule_number a.rules) (bytes 31 s) l.at 8 w (omega arith) e in (
+    let l = c.loop-number in
+    let long = length-take-le (2 * a.n - 1) a.walk.now (omega arith) in
+    let more : l.number-index < 2 * a.n - 1 = omega arith in
+    let next = c.in_ok-number.ensures.next in (
       omega arith,
-      simp length-set l.invariant.1,
-      omega arith,
-      walk_more a.rules s (2 * a.n - 1) l.i l.at l.walk c.loop-i-test.true (omega arith) e ∙ l.invariant.3,
+      rw long
+          (walk_more a.rules a.block.now (2 * a.n - 1) l.number-index l.at l.number-items more (omega arith) c.in_ok-number.ensures.value
+          ∙ rw long at l.invariant.1),
     )
 
 pub returns : goal.returns
 returns c =
     let a = c.args in
     let s = a.block.now in
-    let l = c.loop-i in
-    let h = number_out (head_from a.n s) (sym c.read_head-head.ensures ∙ c.in-Number.is) in
-    let f = walk_end a.rules s (2 * a.n - 1) l.i l.at l.walk c.loop-i-test.false in
-    let n = length-take-le l.i l.walk (omega arith) in
-    rw (head_parsed a.n a.rules s h (sym l.invariant.3 ∙ f)) (refl, rw n refl, omega arith)
+    let l = c.loop-number in
+    let long = length-take-le (2 * a.n - 1) a.walk.now (omega arith) in
+    let done : 2 * a.n - 1 ≤ l.number-index = omega arith in
+    let f = walk_end a.rules s (2 * a.n - 1) l.number-index l.at l.number-items done in
+    let h = read_behind a.n a.rules s c.in_ok-at.ensures.value c.in_ok-at-2.ensures.value c.in_ok-weight.ensures.value
+    (sym (rw long at l.invariant.1) ∙ f) in
+    let n = length-take-le l.number-index l.number-items (omega arith) in
+    let short : l.number-index ≤ length l.number-items = omega arith in
+    rw h (refl, rw (n, take-append-le) refl, omega arith)

@@ -34,7 +34,7 @@ returns-in_default c =
 
 pub overflow_cast-walk : goal.overflow_cast-walk
 overflow_cast-walk c =
-    let (p, near, small, few) = rw c.in-Node.is at c.read_node.ensures in
+    let (p, near, small, few) = rw c.in-Some.is at c.read_node.ensures in
     search (rules, small)
 
 pub offset_bounds-walk-i : goal.offset_bounds-walk-i
@@ -53,15 +53,15 @@ loop-i-smaller c = omega (arith, c.loop-i-test.true)
 
 pub loop-i-preserved : goal.loop-i-preserved
 loop-i-preserved c =
-    let (p, near, small, few) = rw c.in-Node.is at c.read_node.ensures in (
+    let (p, near, small, few) = rw c.in-Some.is at c.read_node.ensures in (
       omega (arith, c.loop-i-test.true),
-      length-set c.loop-i.walk c.loop-i.i c.in-Node.x.rule ∙ c.loop-i.invariant.1,
+      length-set c.loop-i.walk c.loop-i.i c.in-Some.node.rule ∙ c.loop-i.invariant.1,
       omega (arith, c.loop-i.invariant.2, near),
       node_read (rules_of c.args.rules.now c.args.count) (bytes 31 c.args.block.now) c.args.nodes c.loop-i.i
           c.loop-i.at c.loop-i.walk c.loop-i.invariant.3 (omega (arith, c.loop-i-test.true))
           (omega (arith, c.loop-i.invariant.1, c.loop-i-test.true, c.requires.2, c.requires.3)) p
-          (sym (by_rule (rule_at c.args.rules.now c.in-Node.x.rule) c.in-Node.x.rule
-          c.in-Node.x.edge)),
+          (sym (by_rule (rule_at c.args.rules.now c.in-Some.node.rule) c.in-Some.node.rule
+          c.in-Some.node.edge)),
     )
 
 pub shape_of-walk : goal.shape_of-walk

@@ -6,7 +6,7 @@ use Rattle.reading_writer.proofs.Walk.{rest_more, rest_end}
 use Rattle.reading_writer.proofs.write_walk.Goals as goal
 
 pub loop-i-init : goal.loop-i-init
-loop-i-init c = (omega arith, omega arith, rw sub-zero all_remain)
+loop-i-init c = (omega arith, rw sub-zero all_remain)
 
 pub write_field-requires : goal.write_field-requires
 write_field-requires c =
@@ -15,7 +15,7 @@ write_field-requires c =
     omega (
       arith,
       one_within (rw (rest_more a.rules a.trace.now a.n l.i c.width_below-width.ensures.0 (omega arith) (omega arith))
-          at l.invariant.2),
+          at l.invariant.1),
     )
 
 pub loop-i-preserved : goal.loop-i-preserved
@@ -23,9 +23,8 @@ loop-i-preserved c =
     let a = c.args in
     let l = c.loop-i in (
       omega arith,
-      omega arith,
       one_written (rw
-          (rest_more a.rules a.trace.now a.n l.i c.width_below-width.ensures.0 (omega arith) (omega arith)) at l.invariant.2)
+          (rest_more a.rules a.trace.now a.n l.i c.width_below-width.ensures.0 (omega arith) (omega arith)) at l.invariant.1)
           c.write_field.ensures,
     )
 
@@ -33,4 +32,4 @@ pub returns : goal.returns
 returns c =
     let a = c.args in
     let l = c.loop-i in
-    (none_remain (rw (rest_end a.rules a.trace.now a.n l.i (omega arith)) at l.invariant.2)).1
+    (none_remain (rw (rest_end a.rules a.trace.now a.n l.i (omega arith)) at l.invariant.1)).1

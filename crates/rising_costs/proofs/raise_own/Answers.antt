@@ -1,62 +1,26 @@
--- What remains behind the first i nodes is raised and weighed in the turns to come, and at the end nothing remains.
-use mathlib.Core.Path.{refl, ◌∙◌}
-use Prim.Native.Nat.{◌*◌}
+-- What the numbers that are left say is raised and weighed in the turns to come, and at the end nothing is left.
+use Rattle.std.proofs.Common.{◌∙◌, ap, ℕ, length, length-append}
 use native.Mathlib.Omega.{arith}
-use lib.ListN.{take}
-use Rattle.packing.specs.Flat.{nodes_in}
-use Rattle.rising_costs.proofs.Raise.{all_remain, next_remain, none_remain}
+use borrow.Author.Rules.{rules}
+use Rattle.rising_costs.proofs.Raise.{next_remain, none_remain}
 use Rattle.rising_costs.proofs.raise_own.Goals as goal
 
-pub loop-i-init : goal.loop-i-init
-loop-i-init c =
+pub loop-node-preserved : goal.loop-node-preserved
+loop-node-preserved c =
     let a = c.args in
-    (omega arith, omega arith, refl, all_remain a.rules.now a.trace.now a.nodes a.high.now a.costs.now)
-
-pub overflow_mul-p : goal.overflow_mul-p
-overflow_mul-p c = omega arith
-
-pub offset_bounds-trace-p : goal.offset_bounds-trace-p
-offset_bounds-trace-p c = omega arith
-
-pub bounds-trace-p : goal.bounds-trace-p
-bounds-trace-p c = omega arith
-
-pub overflow_add-p : goal.overflow_add-p
-overflow_add-p c = omega arith
-
-pub offset_bounds-trace-p-in-loop-i : goal.offset_bounds-trace-p-in-loop-i
-offset_bounds-trace-p-in-loop-i c = omega arith
-
-pub bounds-trace-p-in-loop-i : goal.bounds-trace-p-in-loop-i
-bounds-trace-p-in-loop-i c = omega arith
-
-pub overflow_add-own : goal.overflow_add-own
-overflow_add-own c = omega (arith, c.raise_node-own.ensures.value.1, c.loop-i.invariant.1)
-
-pub overflow_add-i : goal.overflow_add-i
-overflow_add-i c = omega arith
-
-pub loop-i-smaller : goal.loop-i-smaller
-loop-i-smaller c = omega arith
-
-pub loop-i-preserved : goal.loop-i-preserved
-loop-i-preserved c =
-    let a = c.args in
-    let e = c.raise_node-own.ensures in (
-      omega arith,
-      omega (arith, e.value.1, c.loop-i.invariant.1),
-      c.raise_node-own.auto.costs ∙ c.loop-i.invariant.2,
-      next_remain a.rules.now a.trace.now a.nodes c.loop-i.i a.high.now (nodes_in a.rules.now (take (2 * a.nodes) a.trace.now))
-          c.loop-i-test.true
-          c.requires.1 e.costs_after e.value.0 c.loop-i.invariant.3,
-    )
-
-pub shape_of-costs : goal.shape_of-costs
-shape_of-costs c = c.loop-i.invariant.2
+    let was = c.loop-node.invariant in
+    let e = c.raise_node-own.ensures in
+    let (size, (cut, two), _) = (c.in-Some.ensures).steps in
+    record {
+      can_next = omega arith;
+      finite = tt;
+      size = size ∙ was.size;
+      small = omega (arith, e.value.1, ap length cut, length-append {A = ℕ});
+      kept = c.raise_node-own.auto.costs ∙ was.kept;
+      remains = next_remain _ _ _ _ _ _ _ cut (two ∙ was.size) e.costs_after e.value.0 was.remains;
+    }
 
 pub returns : goal.returns
 returns c =
-    let a = c.args in
-    let all = none_remain a.rules.now a.trace.now a.nodes c.loop-i.i a.high.now (nodes_in a.rules.now (take (2 * a.nodes) a.trace.now))
-    c.loop-i-test.false c.loop-i.invariant.3 in
+    let all = none_remain _ _ _ _ c.loop-node.node-iterator.rest.now (omega (arith, (c.in-None.ensures).steps)) c.loop-node.invariant.remains in
     record { costs_after = all.0; value = all.1 }

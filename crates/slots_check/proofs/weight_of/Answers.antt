@@ -1,82 +1,54 @@
 -- After i numbers the arrays hold the state that the run has come to, with no more parts than slots.
-use mathlib.Core.Path.{refl, sym, ap, ◌∙◌}
+use mathlib.Core.Path.{◌≡◌, refl, sym, ap, ◌∙◌}
 use mathlib.Core.List.{List}
-use Prim.Native.Nat.{◌-◌, ◌*◌}
+use mathlib.Core.Option.{none}
+use Prim.Native.Nat.{ℕ, ◌-◌, ◌*◌, ◌≤◌}
 use native.Mathlib.Omega.{arith}
+use lib.ListN.{take}
+use Rattle.std.proofs.Common.{Some}
 use Rattle.packing.specs.declared.Rule as R
 use Rattle.derivation.specs.Walk.{State, finished, walk_weight}
 use Rattle.packing.specs.Flat.{rules_of}
 use Rattle.parse_stack.specs.Stack.{heads_of}
+use Rattle.parse_stack.proofs.Heads.{chosen}
 use Rattle.slots_check.specs.Slots.{state_of}
-use Rattle.parse_stack.specs.declared.Step.TheVariants.{Onward}
-use Rattle.slots_check.proofs.Steps.{run_more, run_lost, run_over, at_end, not_at_end}
+use Rattle.slots_check.proofs.Steps.{run_more, run_lost, run_over, at_end}
 use Rattle.slots_check.proofs.weight_of.Goals as goal
 
-pub overflow_mul-numbers : goal.overflow_mul-numbers
-overflow_mul-numbers c = omega arith
-
-pub overflow_sub-numbers : goal.overflow_sub-numbers
-overflow_sub-numbers c = omega arith
-
-pub loop-i-init : goal.loop-i-init
+pub loop-r-init : goal.loop-r-init
 unfolding heads_of
-loop-i-init c = (omega arith, refl, omega arith, omega arith, omega arith, omega arith, refl)
+loop-r-init c = (refl, omega arith, omega arith, omega arith, omega arith, refl)
 
-pub slice_bounds-follow-end : goal.slice_bounds-follow-end
-slice_bounds-follow-end c = omega arith
-
-pub follow-requires : goal.follow-requires
-follow-requires c = omega (arith, c.number_at.ensures.1)
-
-pub returns-in_default : goal.returns-in_default
+pub returns-in_err-at : goal.returns-in_err-at
 unfolding walk_weight finished
-returns-in_default c =
+returns-in_err-at c =
     let a = c.args in
-    let l = c.loop-i in
-    let followed = c.follow in
+    let l = c.loop-r in
     let rules : List R.Rule = rules_of a.rules.now a.count in
-    let from : State = state_of a.slots.now l.stack (Onward l.at) in
-    let next = sym (ap (state_of a.slots.now followed.new.stack) c.in_default.is) ∙ followed.ensures.0 in
-    let lost = run_lost rules from a.walk.now (2 * a.n - 1) l.i (omega arith) c.loop-i-test.true
-    c.number_at.ensures.0 next in
-    ap finished (sym lost ∙ l.invariant.6)
+    let walk : List ℕ = take (2 * a.n - 1) a.walk.now in
+    let from : State = state_of a.slots.now l.stack (Some l.at) in
+    let lost = run_lost rules from walk l.r-index c.loop-r-test.true c.wide.ensures.0 c.in_err-at.ensures.0 in
+    rw c.from_residual.ensures (ap finished (sym lost ∙ l.invariant.5))
 
-pub overflow_add-i : goal.overflow_add-i
-overflow_add-i c = omega arith
-
-pub loop-i-smaller : goal.loop-i-smaller
-loop-i-smaller c = omega arith
-
-pub loop-i-preserved : goal.loop-i-preserved
-loop-i-preserved c =
+pub loop-r-preserved : goal.loop-r-preserved
+loop-r-preserved c =
     let a = c.args in
-    let l = c.loop-i in
-    let followed = c.follow in
+    let l = c.loop-r in
     let rules : List R.Rule = rules_of a.rules.now a.count in
-    let from : State = state_of a.slots.now l.stack (Onward l.at) in
-    let next = sym (ap (state_of a.slots.now followed.new.stack) c.in-Onward.is) ∙ followed.ensures.0 in
-    let more = run_more rules from a.walk.now (2 * a.n - 1) l.i (omega arith) c.loop-i-test.true
-    c.number_at.ensures.0 next in
-    let further = rw c.in-Onward.is at followed.ensures.1 in
-    let kept = followed.auto.stack in
-    (omega arith, kept ∙ l.invariant.1, omega arith, omega arith, omega arith, omega arith, more ∙ l.invariant.6)
-
-pub returns-then-at-eq0 : goal.returns-then-at-eq0
-unfolding walk_weight
-returns-then-at-eq0 c =
-    let a = c.args in
-    let l = c.loop-i in
-    let rules : List R.Rule = rules_of a.rules.now a.count in
-    let from : State = state_of a.slots.now l.stack (Onward l.at) in
-    let over = run_over rules from a.walk.now (2 * a.n - 1) l.i c.loop-i-test.false in
-    sym (at_end a.slots.now l.stack l.at c.if-at-eq0.true l.invariant.2) ∙ ap finished (sym over ∙ l.invariant.6)
+    let walk : List ℕ = take (2 * a.n - 1) a.walk.now in
+    let from : State = state_of a.slots.now l.stack (Some l.at) in
+    let more = run_more rules from walk l.r-index c.loop-r-test.true c.wide.ensures.0 c.in_ok-at.ensures.0 in
+    let further = c.in_ok-at.ensures.1 in
+    (c.follow.auto.stack ∙ l.invariant.0, omega arith, omega arith, omega arith, omega arith, more ∙ l.invariant.5)
 
 pub returns : goal.returns
 unfolding walk_weight
 returns c =
     let a = c.args in
-    let l = c.loop-i in
+    let l = c.loop-r in
     let rules : List R.Rule = rules_of a.rules.now a.count in
-    let from : State = state_of a.slots.now l.stack (Onward l.at) in
-    let over = run_over rules from a.walk.now (2 * a.n - 1) l.i c.loop-i-test.false in
-    sym (not_at_end a.slots.now l.stack l.at c.if-at-eq0.false) ∙ ap finished (sym over ∙ l.invariant.6)
+    let walk : List ℕ = take (2 * a.n - 1) a.walk.now in
+    let from : State = state_of a.slots.now l.stack (Some l.at) in
+    let over = run_over rules from walk l.r-index (omega arith) in
+    rw c.then_some.ensures
+    (chosen _ _ ∙ sym (at_end a.slots.now l.stack l.at l.invariant.1) ∙ ap finished (sym over ∙ l.invariant.5))

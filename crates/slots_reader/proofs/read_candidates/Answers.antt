@@ -2,66 +2,47 @@
 -- definition reads behind them is what it reads from the start. Assumes nothing.
 use mathlib.Core.Path.{◌≡◌, refl, sym, ◌∙◌}
 use mathlib.Core.List.{[], ◌∷◌, ◌++◌}
-use Prim.Native.Nat.{ℕ, ◌+◌, ◌-◌, ◌*◌, ◌≤◌, ◌<◌}
+use Prim.Native.Nat.{◌-◌}
 use native.Mathlib.Omega.{arith}
-use lib.ListN.{length, length-append}
-use Rattle.packing.specs.Meaning.{candidate, word}
-use Rattle.packing.specs.Source.{Source}
+use lib.ListN.{length-append}
+use Rattle.std.proofs.lemmas.Result.{err_from_is_err_and}
 use Rattle.packing.specs.Read.{source_of}
 use Rattle.packing.specs.Utterance.{candidates_entries}
 use Rattle.packing.specs.Store.{store_all}
-use Rattle.slots_reader.specs.Placed.{candidate_from, candidate_of, candidate_numbers, placed, not_placed}
-use Rattle.slots_reader.specs.declared.CandidateRead.{CandidateRead}
-use Rattle.slots_reader.specs.declared.CandidateRead.TheVariants as C
-use Rattle.packing.specs.declared.Cursor.{Cursor}
+use Rattle.slots_reader.specs.Placed.{candidate_of}
 use Rattle.slots_reader.proofs.Numbers.{length_numbers, candidate_stored}
-use Rattle.slots_reader.proofs.FieldInversion.{candidate_told}
 use Rattle.slots_reader.proofs.Candidates.{candidate_near, candidates_stop, candidates_go_on, candidates_end}
 use Rattle.slots_reader.proofs.read_candidates.Goals as goal
 
--- the word and the end of the candidate that was read
-bounds : (src : Source) (W least at : ℕ) {r : CandidateRead} {w c : ℕ} {d : Cursor} → 0 < W → W ≤ 200
-    → r ≡ candidate_of (candidate_from src W least at) → r ≡ C.Candidate w c d → (w < 200) × (d.at ≤ at + 24)
-bounds src W least at {w = w} {d = d} some few e h =
-    let (m, n) = candidate_near src W few least at (candidate_told _ e h) in
-    (omega arith, omega arith)
-
 pub loop-i-init : goal.loop-i-init
 unfolding store_all candidates_entries
-loop-i-init c =
-    let a = c.args in
-    let z : a.count - 0 ≡ a.count = omega arith in
-    (omega arith, omega arith, refl, ([], refl, refl, rw z))
+loop-i-init c = let z : c.args.count - 0 ≡ c.args.count = omega arith in (omega arith, ([], refl, refl, rw z))
 
-pub returns-in-Refused : goal.returns-in-Refused
-returns-in-Refused c =
-    let a = c.args in
+pub returns-in_err-c : goal.returns-in_err-c
+returns-in_err-c c =
     let l = c.loop-i in
-    let stops = candidates_stop (source_of a.src a.block.now a.sheet.now) _ _ l.i l.least l.at l.invariant.3.0 c.loop-i-test.true
-    (candidate_told _ c.read_candidate.ensures c.in-Refused.is) in
-    rw (sym l.invariant.3.3 ∙ stops) (not_placed _)
+    let p = err_from_is_err_and c.from_residual.result c.from_residual.ensures.1 in
+    rw (p.1, p.2)
+    (sym l.invariant.1.3 ∙ candidates_stop (source_of c.args.src) _ _ l.i l.least l.at l.invariant.1.0 c.loop-i-test.true (sym c.in_err-c.ensures))
 
 pub overflow_add-least : goal.overflow_add-least
 overflow_add-least c =
     let a = c.args in
     let l = c.loop-i in
-    omega (arith, bounds (source_of a.src a.block.now a.sheet.now) a.words l.least l.at (omega arith) (omega arith) c.read_candidate.ensures c.in-Candidate.is)
+    omega (arith, candidate_near (source_of a.src) a.words (omega arith) l.least l.at (sym c.in_ok-c.ensures))
 
 pub loop-i-preserved : goal.loop-i-preserved
 loop-i-preserved c =
     let a = c.args in
     let l = c.loop-i in
-    let x = c.in-Candidate in
-    let cs = l.invariant.3.0 in
-    let src = source_of a.src a.block.now a.sheet.now in (
-      omega arith,
-      omega (arith, bounds src a.words l.least l.at (omega arith) (omega arith) c.read_candidate.ensures c.in-Candidate.is),
-      c.store_candidate.auto.slots ∙ l.invariant.2,
+    let x = c.in_ok-c in
+    let cs = l.invariant.1.0 in (
+      omega (arith, candidate_near (source_of a.src) a.words (omega arith) l.least l.at (sym x.ensures)),
       (
-        cs ++ (candidate (word x.word) x.cost ∷ []),
+        cs ++ (candidate_of x.c ∷ []),
         simp length-append (omega arith),
-        candidate_stored a.slots.now a.p.to a.words l.i x.word x.cost cs l.invariant.3.1 l.invariant.3.2 c.store_candidate.ensures,
-        sym (candidates_go_on src _ _ l.i l.least l.at cs c.loop-i-test.true (candidate_told _ c.read_candidate.ensures c.in-Candidate.is)) ∙ l.invariant.3.3,
+        candidate_stored a.slots.now a.p.to a.words l.i x.c.word x.c.cost cs l.invariant.1.1 l.invariant.1.2 c.store_candidate.ensures,
+        sym (candidates_go_on (source_of a.src) _ _ l.i l.least l.at cs c.loop-i-test.true (sym x.ensures)) ∙ l.invariant.1.3,
       ),
     )
 
@@ -69,7 +50,9 @@ pub returns : goal.returns
 returns c =
     let l = c.loop-i in
     let a = c.args in
-    let cs = l.invariant.3.0 in
-    let n : a.p.to + 2 * a.count ≡ a.p.to + length (candidate_numbers a.words cs) = omega (arith, length_numbers a.words cs) in
-    let end = candidates_end (source_of a.src a.block.now a.sheet.now) a.words a.count l.i l.least l.at cs (omega arith) in
-    rw (sym l.invariant.3.3 ∙ end, n) (placed cs l.at l.invariant.3.2)
+    let cs = l.invariant.1.0 in (
+      cs,
+      sym l.invariant.1.3 ∙ candidates_end (source_of a.src) a.words a.count l.i l.least l.at cs (omega arith),
+      omega (arith, length_numbers a.words cs),
+      l.invariant.1.2,
+    )

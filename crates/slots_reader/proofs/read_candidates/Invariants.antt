@@ -13,10 +13,7 @@ use Rattle.slots_reader.proofs.read_candidates.Given as goal
 
 abbrev pub invariant-loop-i : goal.invariant-loop-i
 invariant-loop-i l =
-    (l.i ≤ l.count) × (l.at ≤ l.initial.at + 24 * l.i) × (length l.slots ≡ length l.initial.slots)
-    × ((cs : List Candidate) × (length cs ≡ l.i) × (l.slots ≡ store_all l.initial.slots l.to (candidate_numbers l.words cs))
-    × (candidates_from (source_of l.src l.block l.sheet) l.words (l.count - l.i) l.least l.at cs
-    ≡ candidates_from (source_of l.src l.block l.sheet) l.words l.count 0 l.initial.at []))
-
-abbrev pub decreases-loop-i : goal.decreases-loop-i
-decreases-loop-i l = l.count - l.i
+    (l.at ≤ l.initial.at + 24 * l.i)
+    × ((cs : List Candidate) × (length cs ≡ l.i) × (l.slots ≡ store_all l.initial.slots l.p.to (candidate_numbers l.words cs))
+    × (candidates_from (source_of l.src) l.words (l.count - l.i) l.least l.at cs
+    ≡ candidates_from (source_of l.src) l.words l.count 0 l.initial.at []))

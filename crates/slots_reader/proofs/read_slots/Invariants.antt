@@ -11,13 +11,9 @@ use Rattle.packing.specs.Flat.{slot_numbers}
 use Rattle.packing.specs.Store.{store_all}
 use Rattle.slots_reader.proofs.read_slots.Given as goal
 
-abbrev pub invariant-loop-i : goal.invariant-loop-i
-invariant-loop-i l =
-    (l.i ≤ l.count) × (l.p.at ≤ l.start + 171 * l.i) × (l.p.to ≤ 15 * l.i) × (length l.slots ≡ length l.initial.slots)
-    × ((u : Utterance) × (length u ≡ l.i) × (l.p.to ≡ 0 + length (slot_numbers l.words u))
+abbrev pub invariant-loop : goal.invariant-loop
+invariant-loop l =
+    (l.p.at ≤ l.start + 171 * l.counter) × (l.p.to ≤ 15 * l.counter)
+    × ((u : Utterance) × (length u ≡ l.counter) × (l.p.to ≡ 0 + length (slot_numbers l.words u))
     × (l.slots ≡ store_all l.initial.slots 0 (slot_numbers l.words u))
-    × (slots_from (source_of l.src l.block l.sheet) l.words (l.count - l.i) l.p.at u
-    ≡ slots_from (source_of l.src l.block l.sheet) l.words l.count l.start []))
-
-abbrev pub decreases-loop-i : goal.decreases-loop-i
-decreases-loop-i l = l.count - l.i
+    × (slots_from (source_of l.src) l.words (l.count - l.counter) l.p.at u ≡ slots_from (source_of l.src) l.words l.count l.start []))

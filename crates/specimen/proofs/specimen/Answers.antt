@@ -1,43 +1,33 @@
 -- Each way out is one of the definition's conditions; what is left is the answer for an accepted grammar. Assumes nothing.
-use mathlib.Core.Path.{subst}
+use mathlib.Core.Path.{ap}
+use Prim.Native.Nat.{◌≤◌}
+use native.Mathlib.Omega.{arith}
+use lib.ListN.{length}
+use Rattle.std.proofs.lemmas.Result.{err_from_is_err_and}
+use Rattle.packing.specs.Parse.{accepted}
 use Rattle.packing.specs.Grammar.{grammar_block}
 use Rattle.packing.proofs.Whole.{grammar_block_out}
-use Rattle.grammar_reader.specs.Answer.{InBounds}
 use Rattle.grammar_reader.proofs.BlockInversion.{accepted_told, refused_told}
-use Rattle.specimen.proofs.Asked.{asked_block, asked_none, asked_many, asked_short, asked_well, specimen_refused, specimen_accepted}
+use Rattle.specimen.proofs.Asked.{
+  asked_block,
+  asked_well,
+  specimen_refused,
+  specimen_accepted,
+}
 use Rattle.specimen.proofs.specimen.Goals as goal
 
-pub returns-then-wanted-lt1 : goal.returns-then-wanted-lt1
-returns-then-wanted-lt1 c =
+pub returns-in_err-sizes : goal.returns-in_err-sizes
+returns-in_err-sizes c =
     let block = c.args.grammar.now in
-    let (g, e, z) = accepted_told (grammar_block block) c.read_block-read.ensures.0 c.in-Grammar.is in
-    specimen_refused _ _ _ _ (asked_none 24 _ _ _ e c.if-wanted-lt1.true)
+    let p = err_from_is_err_and c.from_residual.result c.from_residual.ensures.1 in
+    rw (p.1, p.2) (specimen_refused _ _ _ _ (asked_block 24 _ _ _ (refused_told (grammar_block block) c.in_err-sizes.ensures.0)))
 
-pub returns-then-wanted-gt-MAX_LENGTH : goal.returns-then-wanted-gt-MAX_LENGTH
-returns-then-wanted-gt-MAX_LENGTH c =
+pub returns : goal.returns
+returns c =
+    let some : 1 ≤ c.args.wanted = omega arith in
+    let few : c.args.wanted ≤ 24 = omega arith in
+    let room : c.args.wanted ≤ length c.args.out.now = omega arith in
     let block = c.args.grammar.now in
-    let (g, e, z) = accepted_told (grammar_block block) c.read_block-read.ensures.0 c.in-Grammar.is in
-    specimen_refused _ _ _ _ (asked_many 24 _ _ _ e c.if-wanted-lt1.false c.if-wanted-gt-MAX_LENGTH.true)
-
-pub returns-then-out-n : goal.returns-then-out-n
-returns-then-out-n c =
-    let block = c.args.grammar.now in
-    let (g, e, z) = accepted_told (grammar_block block) c.read_block-read.ensures.0 c.in-Grammar.is in
-    specimen_refused _ _ _ _ (asked_short 24 _ _ _ e c.if-wanted-lt1.false c.if-wanted-gt-MAX_LENGTH.false c.if-out-n.true)
-
-pub answer-requires : goal.answer-requires
-answer-requires c =
-    let sized = subst InBounds c.in-Grammar.is c.read_block-read.ensures.2 in
-    (sized, c.if-wanted-lt1.false, c.if-wanted-gt-MAX_LENGTH.false, c.if-out-n.false)
-
-pub returns-in-Refused : goal.returns-in-Refused
-returns-in-Refused c =
-    let block = c.args.grammar.now in
-    specimen_refused _ _ _ _ (asked_block 24 _ _ _ (refused_told (grammar_block block) c.read_block-read.ensures.0 c.in-Refused.is))
-
-pub returns-else-out-n : goal.returns-else-out-n
-returns-else-out-n c =
-    let block = c.args.grammar.now in
-    let (g, e, z) = accepted_told (grammar_block block) c.read_block-read.ensures.0 c.in-Grammar.is in
-    rw (specimen_accepted _ _ _ (asked_well 24 _ _ _ e c.if-wanted-lt1.false c.if-wanted-gt-MAX_LENGTH.false c.if-out-n.false))
-    (c.answer.ensures g z (grammar_block_out _ g e).0 (rw e at c.read_block-read.ensures.1))
+    let (g, e, z) = accepted_told (grammar_block block) c.in_ok-sizes.ensures.0 in
+    let told = c.answer.ensures g z (grammar_block_out _ g e).0 (rw e at c.in_ok-sizes.ensures.1) in
+    rw (specimen_accepted _ _ _ (asked_well 24 _ _ _ e some few room)) (ap accepted told.0, told.1)

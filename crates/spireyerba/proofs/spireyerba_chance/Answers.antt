@@ -1,35 +1,33 @@
 -- Each arm is the definition's code of that answer, and what it writes; so the demands are met. Assumes nothing.
-use borrow.Author.Rules.{rules}
-use Rattle.chance.specs.Answer.{chance}
+use mathlib.Core.Path.{ap}
+use Prim.Native.Nat.{ℕ}
+use lib.Ieee.{Float}
+use Rattle.packing.specs.Parse.{Verdict}
+use Rattle.codes.specs.Code.{code_of}
+use Rattle.spireyerba.specs.Code.{chance_after}
 use Rattle.spireyerba.proofs.Small.{chance_small}
-use Rattle.spireyerba.proofs.Codes.{shown_small, shown_code_lem, shown_number, written_float, kept_float}
+use Rattle.spireyerba.proofs.Codes.{plain_number}
 use Rattle.spireyerba.proofs.Demands.{chances}
 use Rattle.spireyerba.proofs.spireyerba_chance.Goals as goal
 
-pub refusal-requires : goal.refusal-requires
-refusal-requires c = shown_small (chance_small _ _ _ _) c.chance-answer.ensures.value c.in-Refused.is
-
-pub returns-in-Product : goal.returns-in-Product
-returns-in-Product c =
+pub returns-in-Ok : goal.returns-in-Ok
+returns-in-Ok c =
     let a = c.args in
-    let answered = c.chance-answer.ensures in
-    let code = shown_code_lem (chance_small a.grammar.now a.utterance.now a.reading.now a.shares.now) answered.value c.in-Product.is in
-    let float = written_float (chance a.grammar.now a.utterance.now a.reading.now a.shares.now) a.chance.now answered.value
-    c.in-Product.is in
+    let answered = c.in-Ok.ensures in
+    let code = ap (code_of {A = Float} (λ x. 0)) answered.value in
+    let float = ap (λ (v : Verdict Float). chance_after v a.chance.now) answered.value in
     record {
       answered_as = record { code_is = code; left_is = float };
       chance = chances a.grammar.now a.utterance.now a.reading.now a.shares.now
           (λ i. (c.type_inv.reading i).fits) code float answered.value answered.shown;
     }
 
-pub returns-in-Refused : goal.returns-in-Refused
-returns-in-Refused c =
+pub returns-in-Err : goal.returns-in-Err
+returns-in-Err c =
     let a = c.args in
-    let answered = c.chance-answer.ensures in
-    let code = shown_number (chance_small a.grammar.now a.utterance.now a.reading.now a.shares.now) answered.value
-    c.in-Refused.is c.refusal.ensures in
-    let float = kept_float (chance a.grammar.now a.utterance.now a.reading.now a.shares.now) a.chance.now answered.value
-    c.in-Refused.is in
+    let answered = c.in-Err.ensures in
+    let code = plain_number (λ x. 0) answered.value (chance_small a.grammar.now a.utterance.now a.reading.now a.shares.now) c.refusal.ensures in
+    let float = ap (λ (v : Verdict Float). chance_after v a.chance.now) answered.value in
     record {
       answered_as = record { code_is = code; left_is = float };
       chance = chances a.grammar.now a.utterance.now a.reading.now a.shares.now

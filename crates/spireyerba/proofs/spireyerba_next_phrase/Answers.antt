@@ -1,29 +1,14 @@
--- Each arm is the definition's code of that answer; so the demands are met. Assumes nothing.
-use borrow.Author.Rules.{rules}
-use Rattle.spireyerba.proofs.Codes.{answered_small, answered_code_lem, answered_number}
-use Rattle.spireyerba.proofs.Strings.{next_wanted, continues}
+-- The service's answer is small, and its code is the verdict's; so the demands are met. Assumes nothing.
+use Rattle.specimen.specs.Specimen.{string_length}
+use Rattle.spireyerba.proofs.Codes.{counted_small, counted_number}
+use Rattle.spireyerba.proofs.Strings.{next_small, continues}
 use Rattle.spireyerba.proofs.spireyerba_next_phrase.Goals as goal
 
-pub count-requires : goal.count-requires
-count-requires c = answered_small (next_wanted _ _ _ _) c.next_phrase-answer.ensures.0 c.in-Written.is
+pub counted_code-requires : goal.counted_code-requires
+counted_code-requires c = counted_small string_length (next_small _ _ _ _) c.next_phrase.result c.next_phrase.ensures.0
 
-pub refusal-requires : goal.refusal-requires
-refusal-requires c = answered_small (next_wanted _ _ _ _) c.next_phrase-answer.ensures.0 c.in-Refused.is
-
-pub returns-in-Written : goal.returns-in-Written
-returns-in-Written c =
-    let s = c.next_phrase-answer.ensures in
-    let code = answered_number (next_wanted _ _ _ _) s.0 c.in-Written.is c.count.ensures in
-    record { answered_as = record { code_is = code; left_is = s.1 }; next_phrase = continues _ _ _ _ code s.1 }
-
-pub returns-in-Nothing : goal.returns-in-Nothing
-returns-in-Nothing c =
-    let s = c.next_phrase-answer.ensures in
-    let code = answered_code_lem (next_wanted _ _ _ _) s.0 c.in-Nothing.is in
-    record { answered_as = record { code_is = code; left_is = s.1 }; next_phrase = continues _ _ _ _ code s.1 }
-
-pub returns-in-Refused : goal.returns-in-Refused
-returns-in-Refused c =
-    let s = c.next_phrase-answer.ensures in
-    let code = answered_number (next_wanted _ _ _ _) s.0 c.in-Refused.is c.refusal.ensures in
+pub returns : goal.returns
+returns c =
+    let s = c.next_phrase.ensures in
+    let code = counted_number string_length (next_small _ _ _ _) c.next_phrase.result s.0 c.counted_code.ensures in
     record { answered_as = record { code_is = code; left_is = s.1 }; next_phrase = continues _ _ _ _ code s.1 }

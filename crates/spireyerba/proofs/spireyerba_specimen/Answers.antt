@@ -1,29 +1,14 @@
--- Each arm is the definition's code of that answer; so the demands are met. Assumes nothing.
-use borrow.Author.Rules.{rules}
-use Rattle.spireyerba.proofs.Codes.{answered_small, answered_code_lem, answered_number}
-use Rattle.spireyerba.proofs.Strings.{specimen_wanted, specifies}
+-- The service's answer is small, and its code is the verdict's; so the demands are met. Assumes nothing.
+use Rattle.specimen.specs.Specimen.{string_length}
+use Rattle.spireyerba.proofs.Codes.{counted_small, counted_number}
+use Rattle.spireyerba.proofs.Strings.{specimen_small, specifies}
 use Rattle.spireyerba.proofs.spireyerba_specimen.Goals as goal
 
-pub count-requires : goal.count-requires
-count-requires c = answered_small (specimen_wanted _ _ _) c.specimen-answer.ensures.0 c.in-Written.is
+pub counted_code-requires : goal.counted_code-requires
+counted_code-requires c = counted_small string_length (specimen_small _ _ _) c.specimen.result c.specimen.ensures.0
 
-pub refusal-requires : goal.refusal-requires
-refusal-requires c = answered_small (specimen_wanted _ _ _) c.specimen-answer.ensures.0 c.in-Refused.is
-
-pub returns-in-Written : goal.returns-in-Written
-returns-in-Written c =
-    let s = c.specimen-answer.ensures in
-    let code = answered_number (specimen_wanted _ _ _) s.0 c.in-Written.is c.count.ensures in
-    record { answered_as = record { code_is = code; left_is = s.1 }; specimen = specifies _ _ _ code s.1 }
-
-pub returns-in-Nothing : goal.returns-in-Nothing
-returns-in-Nothing c =
-    let s = c.specimen-answer.ensures in
-    let code = answered_code_lem (specimen_wanted _ _ _) s.0 c.in-Nothing.is in
-    record { answered_as = record { code_is = code; left_is = s.1 }; specimen = specifies _ _ _ code s.1 }
-
-pub returns-in-Refused : goal.returns-in-Refused
-returns-in-Refused c =
-    let s = c.specimen-answer.ensures in
-    let code = answered_number (specimen_wanted _ _ _) s.0 c.in-Refused.is c.refusal.ensures in
+pub returns : goal.returns
+returns c =
+    let s = c.specimen.ensures in
+    let code = counted_number string_length (specimen_small _ _ _) c.specimen.result s.0 c.counted_code.ensures in
     record { answered_as = record { code_is = code; left_is = s.1 }; specimen = specifies _ _ _ code s.1 }

@@ -1,31 +1,19 @@
 -- The grammar block is read for its words, and the utterance converted under them; what is written turns back.
-use mathlib.Core.Path.{sym, ◌∙◌}
-use native.Mathlib.Omega.{arith}
+use mathlib.Core.Path.{◌≡◌, ap}
 use Rattle.packing.specs.Grammar.{grammar_block}
-use Rattle.packing.specs.Conversion.{utterance_to_block, block_under}
+use Rattle.packing.specs.Conversion.{utterance_to_block}
 use Rattle.packing.proofs.Theorems.{utterance_sheet_and_back}
-use Rattle.sheet_writer.proofs.Fit.{handed_up, and_back}
-use Rattle.grammar_reader.proofs.FieldInversion.{refusal_told, words_told}
+use Rattle.packing.proofs.Told.{accepted_told}
+use Rattle.grammar_reader.specs.Answer.{sizes}
+use Rattle.grammar_reader.specs.declared.Sizes.{Sizes}
+use Rattle.sheet_writer.proofs.Back.{turns_back}
 use Rattle.utterance_conversion.proofs.utterance_to_block.Goals as goal
 
-pub sheet_to_block-requires : goal.sheet_to_block-requires
-sheet_to_block-requires c =
-    omega (arith, rw c.in-Grammar.is at c.read_block.ensures.2)
-
-pub returns-in-Refused : goal.returns-in-Refused
+pub returns-clause-turns_back : goal.returns-clause-turns_back
 unfolding utterance_to_block
-returns-in-Refused c =
+returns-clause-turns_back c =
     let a = c.args in
-    let (writes, back) = and_back (utterance_to_block a.grammar.now a.sheet.now) (utterance_sheet_and_back a.grammar.now a.sheet.now) a.out.now
-    (handed_up a.out.now (refusal_told (grammar_block a.grammar.now) (λ g. block_under g.words a.sheet.now)
-    (sym c.read_block.ensures.0 ∙ c.in-Refused.is))) in
-    record { writes = writes; turns_back = back }
-
-pub returns-in-Grammar : goal.returns-in-Grammar
-unfolding utterance_to_block
-returns-in-Grammar c =
-    let a = c.args in
-    let (writes, back) = and_back (utterance_to_block a.grammar.now a.sheet.now) (utterance_sheet_and_back a.grammar.now a.sheet.now) a.out.now
-    (rw (words_told (grammar_block a.grammar.now) (sym c.read_block.ensures.0 ∙ c.in-Grammar.is) (λ W. block_under W a.sheet.now))
-    c.sheet_to_block.ensures) in
-    record { writes = writes; turns_back = back }
+    let (g, p, s) = accepted_told (grammar_block a.grammar.now) sizes c.in_ok-z.ensures.0 in
+    let words : c.in_ok-z.z.words ≡ g.words = ap (λ (z : Sizes). z.words) s in
+    turns_back (utterance_to_block a.grammar.now a.sheet.now) (utterance_sheet_and_back a.grammar.now a.sheet.now) a.out.now
+    (rw (p, ← words) c.sheet_to_block.ensures)

@@ -17,26 +17,25 @@ unfolding store_all edge_numbers
 loop-i-init c =
     let a = c.args in
     let z : a.count - 0 ≡ a.count = omega arith in
-    (omega arith, omega arith, omega arith, refl, ([], refl, refl, rw z))
+    (omega arith, omega arith, refl, ([], refl, refl, rw z))
 
 pub loop-i-preserved : goal.loop-i-preserved
 loop-i-preserved c =
     let l = c.loop-i in
     let a = c.args in
-    let es = l.invariant.4.0 in
+    let es = l.invariant.3.0 in
     let n = c.candidates_at-n.result in
     let fs = candidate_edges a.slots.now l.i n (l.p + 1) in
     let m = length_candidate_edges a.slots.now l.i n (l.p + 1) in (
       omega arith,
       omega arith,
-      omega arith,
-      c.slot_edges.auto.edges ∙ l.invariant.3,
+      c.slot_edges.auto.edges ∙ l.invariant.2,
       (
         es ++ fs,
         simp length-append (omega arith),
-        edges_stored a.edges.now 0 es fs l.invariant.4.2 (omega arith) c.slot_edges.ensures,
+        edges_stored a.edges.now 0 es fs l.invariant.3.2 (omega arith) c.slot_edges.ensures,
         sym (slot_edges_more a.slots.now a.count l.i l.p es c.loop-i-test.true c.candidates_at-n.ensures)
-            ∙ l.invariant.4.3,
+            ∙ l.invariant.3.3,
       ),
     )
 
@@ -44,7 +43,7 @@ pub returns : goal.returns
 returns c =
     let l = c.loop-i in
     let a = c.args in
-    let es = l.invariant.4.0 in
-    let laid = l.invariant.4.2 ∙ stored_overlaid a.edges.now (edge_numbers es) (omega (arith, length_edges es)) in
-    rw (sym l.invariant.4.3 ∙ slot_edges_end a.slots.now a.count l.i l.p es (omega arith))
-    (sym l.invariant.4.1, overlaid_begins (edge_numbers es) a.edges.now l.edges laid, laid)
+    let es = l.invariant.3.0 in
+    let laid = l.invariant.3.2 ∙ stored_overlaid a.edges.now (edge_numbers es) (omega (arith, length_edges es)) in
+    rw (sym l.invariant.3.3 ∙ slot_edges_end a.slots.now a.count l.i l.p es (omega arith))
+    (sym l.invariant.3.1, overlaid_begins (edge_numbers es) a.edges.now l.edges laid, laid)

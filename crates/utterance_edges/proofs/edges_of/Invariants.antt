@@ -12,9 +12,6 @@ use Rattle.utterance_edges.proofs.edges_of.Given as goal
 
 abbrev pub invariant-loop-i : goal.invariant-loop-i
 invariant-loop-i l =
-    (l.i ≤ l.count) × (l.p ≤ 15 * l.i) × (l.found ≤ 7 * l.i) × (length l.edges ≡ length l.initial.edges)
+    (l.p ≤ 15 * l.i) × (l.found ≤ 7 * l.i) × (length l.edges ≡ length l.initial.edges)
     × ((es : List Edge) × (length es ≡ l.found) × (l.edges ≡ store_all l.initial.edges 0 (edge_numbers es))
     × (es ++ slots_edges l.slots (l.count - l.i) l.i l.p ≡ slots_edges l.slots l.count 0 0))
-
-abbrev pub decreases-loop-i : goal.decreases-loop-i
-decreases-loop-i l = l.count - l.i

@@ -17,23 +17,22 @@ unfolding store_all edge_numbers
 loop-k-init c =
     let a = c.args in
     let z : a.count - 0 ≡ a.count = omega arith in
-    (omega arith, refl, ([], refl, refl, rw (z, add-zero)))
+    (refl, ([], refl, refl, rw (z, add-zero)))
 
 pub loop-k-preserved : goal.loop-k-preserved
 unfolding edge_numbers
 loop-k-preserved c =
     let l = c.loop-k in
     let a = c.args in
-    let es = l.invariant.2.0 in
+    let es = l.invariant.1.0 in
     let e = edge a.slot (a.slot + 1) (word c.narrow_at-word.result) c.narrow_at-cost.result in (
-      omega arith,
-      c.store_edge.auto.edges ∙ l.invariant.1,
+      c.store_edge.auto.edges ∙ l.invariant.0,
       (
         es ++ (e ∷ []),
         simp length-append (omega arith),
-        edges_stored a.edges.now a.to es (e ∷ []) l.invariant.2.2 (omega arith) c.store_edge.ensures,
+        edges_stored a.edges.now a.to es (e ∷ []) l.invariant.1.2 (omega arith) c.store_edge.ensures,
         sym (candidate_edge a.slots.now a.slot a.count l.k a.p es c.loop-k-test.true c.narrow_at-word.ensures
-            c.narrow_at-cost.ensures) ∙ l.invariant.2.3,
+            c.narrow_at-cost.ensures) ∙ l.invariant.1.3,
       ),
     )
 
@@ -41,4 +40,4 @@ pub returns : goal.returns
 returns c =
     let l = c.loop-k in
     let a = c.args in
-    rw (sym l.invariant.2.3 ∙ candidate_edges_end a.slots.now a.slot a.count l.k a.p l.invariant.2.0 (omega arith)) l.invariant.2.2
+    rw (sym l.invariant.1.3 ∙ candidate_edges_end a.slots.now a.slot a.count l.k a.p l.invariant.1.0 (omega arith)) l.invariant.1.2

@@ -2,7 +2,7 @@
 -- nothing.
 use mathlib.Core.Path.{◌≡◌}
 use mathlib.Core.List.{List, ◌++◌}
-use Prim.Native.Nat.{◌+◌, ◌-◌, ◌*◌, ◌≤◌}
+use Prim.Native.Nat.{◌+◌, ◌-◌, ◌*◌}
 use lib.ListN.{length}
 use Rattle.packing.specs.Meaning.{Edge}
 use Rattle.packing.specs.Flat.{edge_numbers}
@@ -12,9 +12,6 @@ use Rattle.utterance_edges.proofs.slot_edges.Given as goal
 
 abbrev pub invariant-loop-k : goal.invariant-loop-k
 invariant-loop-k l =
-    (l.k ≤ l.count) × (length l.edges ≡ length l.initial.edges)
+    (length l.edges ≡ length l.initial.edges)
     × ((es : List Edge) × (length es ≡ l.k) × (l.edges ≡ store_all l.initial.edges l.to (edge_numbers es))
     × (es ++ candidate_edges l.slots l.slot (l.count - l.k) (l.p + 2 * l.k) ≡ candidate_edges l.slots l.slot l.count l.p))
-
-abbrev pub decreases-loop-k : goal.decreases-loop-k
-decreases-loop-k l = l.count - l.k

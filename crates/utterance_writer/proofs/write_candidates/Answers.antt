@@ -6,7 +6,7 @@ use Rattle.utterance_writer.proofs.Slots.{candidates_some, candidates_more, cand
 use Rattle.utterance_writer.proofs.write_candidates.Goals as goal
 
 pub loop-i-init : goal.loop-i-init
-loop-i-init c = (omega arith, rw (sub-zero, add-zero) all_remain)
+loop-i-init c = rw (sub-zero, add-zero) all_remain
 
 pub overflow_mul-i : goal.overflow_mul-i
 overflow_mul-i c =
@@ -23,7 +23,7 @@ write_field-requires c =
     let a = c.args in
     let l = c.loop-i in
     let m = rw (candidates_more a.words a.slots.now a.p a.n l.i c.width_below-width.ensures.0 c.loop-i-test.true)
-    at l.invariant.1 in
+    at l.invariant in
     omega (arith, one_within m)
 
 pub overflow_mul-i-in-loop-i : goal.overflow_mul-i-in-loop-i
@@ -46,26 +46,21 @@ write_field-requires-in-loop-i c =
     let a = c.args in
     let l = c.loop-i in
     let m = rw (candidates_more a.words a.slots.now a.p a.n l.i c.width_below-width.ensures.0 c.loop-i-test.true)
-    at l.invariant.1 in
+    at l.invariant in
     let w = one_written m (rw c.narrow_at-word.ensures at c.write_field.ensures) in
     omega (arith, one_within w)
-
-pub overflow_add-i : goal.overflow_add-i
-overflow_add-i c =
-    let a = c.args in
-    omega (arith, candidates_some a.words a.slots.now a.p a.n)
 
 pub loop-i-preserved : goal.loop-i-preserved
 loop-i-preserved c =
     let a = c.args in
     let l = c.loop-i in
     let m = rw (candidates_more a.words a.slots.now a.p a.n l.i c.width_below-width.ensures.0 c.loop-i-test.true)
-    at l.invariant.1 in
+    at l.invariant in
     let w = one_written m (rw c.narrow_at-word.ensures at c.write_field.ensures) in
-    (omega arith, one_written w (rw c.narrow_at-cost.ensures at c.write_field-in-loop-i.ensures))
+    one_written w (rw c.narrow_at-cost.ensures at c.write_field-in-loop-i.ensures)
 
 pub returns : goal.returns
 returns c =
     let a = c.args in
     let l = c.loop-i in
-    none_remain (rw (candidates_end a.words a.slots.now a.p a.n l.i (omega arith)) at l.invariant.1)
+    none_remain (rw (candidates_end a.words a.slots.now a.p a.n l.i (omega arith)) at l.invariant)

@@ -6,7 +6,4 @@ use Rattle.utterance_writer.proofs.write_slots.Given as goal
 
 abbrev pub invariant-loop-i : goal.invariant-loop-i
 invariant-loop-i l =
-    (l.i ≤ l.n) × (l.p ≤ l.at) × Remaining l.initial.out l.start (slots_fields l.words l.slots 0 l.n) l.out l.at (slots_fields l.words l.slots l.p (l.n - l.i))
-
-abbrev pub decreases-loop-i : goal.decreases-loop-i
-decreases-loop-i l = l.n - l.i
+    (l.p ≤ l.at) × Remaining l.initial.out l.start (slots_fields l.words l.slots 0 l.n) l.out l.at (slots_fields l.words l.slots l.p (l.n - l.i))

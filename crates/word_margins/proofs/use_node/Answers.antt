@@ -3,12 +3,7 @@ use Rattle.word_margins.proofs.Steps.{pair_unused, word_used}
 use borrow.Author.Rules.{rules}
 use Rattle.word_margins.proofs.use_node.Goals as goal
 
-pub returns-in-Pair : goal.returns-in-Pair
-returns-in-Pair c =
-    pair_unused c.args.rules.now c.args.used.now c.args.rule c.args.edge c.rule_at-kind.ensures
-    c.wide.ensures.0 c.in-Pair.is
-
 pub returns-in-Word : goal.returns-in-Word
 returns-in-Word c =
-    word_used c.args.rules.now c.args.used.now c.args.rule c.args.edge c.rule_at-kind.ensures
+    word_used c.args.rules.now c.args.used.now c.args.rule c.args.edge c.rule_at.ensures
     c.wide.ensures.0 c.in-Word.is c.wide-in-Word.ensures.0 c.store.ensures

@@ -1,18 +1,14 @@
--- What remains behind the first i nodes is marked in the turns to come, and at the end nothing remains.
-use mathlib.Core.Path.{◌≡◌, refl, ◌∙◌}
-use native.Mathlib.Omega.{arith}
-use Prim.Native.Nat.{◌-◌, ◌*◌, ◌≤◌}
-use lib.ListN.{length, take}
+-- The nodes of the numbers that are left are marked in the turns to come, and at the end nothing is left.
+use Rattle.std.proofs.Common.{◌≡◌, length}
 use Rattle.packing.specs.Flat.{nodes_in}
-use Rattle.one_best.proofs.Trace.{rest}
 use Rattle.word_margins.specs.Model.{use_nodes}
-use Rattle.word_margins.proofs.Marked.{all_used, next_used, none_used}
-use borrow.Author.Rules.{rules}
 use Rattle.word_margins.proofs.use_nodes.Given as goal
 
-abbrev pub invariant-loop-i : goal.invariant-loop-i
-invariant-loop-i l = (l.i ≤ l.nodes) × (length l.used ≡ length l.initial.used)
-    × (use_nodes l.used (rest l.rules l.trace l.nodes l.i) ≡ use_nodes l.initial.used (nodes_in l.rules (take (2 * l.nodes) l.trace)))
-
-abbrev pub decreases-loop-i : goal.decreases-loop-i
-decreases-loop-i l = l.nodes - l.i
+abbrev pub invariant-loop-node : goal.invariant-loop-node
+invariant-loop-node l = record {
+  can_next : (goal.iterator-loop-node).can_next l.node-iterator;
+  finite : (goal.iterator-loop-node).is_finite l.node-iterator;
+  size : l.node-iterator.size ≡ 2;
+  kept : length l.used ≡ length l.initial.used;
+  remains : use_nodes l.used (nodes_in l.rules l.node-iterator.rest.now) ≡ use_nodes l.initial.used (nodes_in l.rules l.trace);
+}
