@@ -46,7 +46,6 @@ each('3c', r'^\s*if [^{]*\{\n\s*if [^{]*\{\n')
 each('4', r'^(?:pub )?fn (least|lesser|min\w*|max\w*|same_\w+|is_reading|clear|copy|all_zero)\b.*')
 each('4', r'\.len\(\) == 0|\.len\(\) < 1\b')
 # 5. Facts about a value in three contracts or more, by the definition that says it; and parameters that travel together.
-facts = collections.Counter()
 where = collections.defaultdict(list)
 for file, text in files.items():
     for m in re.finditer(r'requires\b[^{]*\{.*?\}\n', text, re.S):
