@@ -1,2 +1,0 @@
--- What follows one has a split.
-pub mod Initial
