@@ -32,9 +32,18 @@ pub fn read_sizes(src: Source, at: usize) -> Result<(Sizes, usize), Refusal>
     requires { at < 2 ^ 16 }
     ensures { (as_parse result ≡ sizes_from (source_of src.entry) at) × SizesNear (at + SIZES_WIDTH) result }
 {
-    let (symbols, at) = src.field_at(at, format::SYMBOLS_FIELD)?;
-    let (words, at) = src.field_at(at, format::WORDS_FIELD)?;
-    let (rules, at) = src.field_at(at, format::RULES_FIELD)?;
+    let read = src.field_at(at, format::SYMBOLS_FIELD);
+    let Ok((symbols, at)) = read else {
+        return Err(read.unwrap_err());
+    };
+    let read = src.field_at(at, format::WORDS_FIELD);
+    let Ok((words, at)) = read else {
+        return Err(read.unwrap_err());
+    };
+    let read = src.field_at(at, format::RULES_FIELD);
+    let Ok((rules, at)) = read else {
+        return Err(read.unwrap_err());
+    };
     let sizes = Sizes {
         symbols,
         words,
@@ -109,7 +118,10 @@ fn read_kind(
     ensures { MarkedTold (block_by marked block.now) result rules.old rules.new marks.new }
 {
     let src = Source::Block(block, Refusal::GrammarEnd);
-    let (_, at) = src.field_at(0, kind_field(marked))?;
+    let read = src.field_at(0, kind_field(marked));
+    let Ok((_, at)) = read else {
+        return Err(read.unwrap_err());
+    };
     let (sizes, at) = read_grammar(src, at, marked, rules, marks)?;
     if !bit_reader::zero_from(block, at) {
         return Err(Refusal::GrammarFill);

@@ -48,8 +48,14 @@ fn read_edge(src: Source, at: usize, words: u32, places: u32) -> Result<(Edge, u
     requires { (at < 2 ^ 30) × (0 < words) × (words ≤ MAX_WORDS) × (1 ≤ places) }
     ensures { as_parse_by edge_of result ≡ edge_from (source_of src.entry) words places at }
 {
-    let (from, next) = src.field_at(at, format::START_FIELD)?;
-    let (target, last) = src.field_at(next, end_field(places, from))?;
+    let read = src.field_at(at, format::START_FIELD);
+    let Ok((from, next)) = read else {
+        return Err(read.unwrap_err());
+    };
+    let read = src.field_at(next, end_field(places, from));
+    let Ok((target, last)) = read else {
+        return Err(read.unwrap_err());
+    };
     let (c, end) = slots_reader::read_candidate(src, last, words, 0)?;
     let edge = Edge {
         from,
@@ -113,8 +119,14 @@ fn read_body(
     requires { (at < 2 ^ 15) × (0 < words) × (words ≤ MAX_WORDS) × (GRAPH_EDGES_LENGTH ≤ length edges.old) }
     ensures { GraphAs edges.old edges.new (graph_from (source_of src.entry) words at) result }
 {
-    let (places, next) = src.field_at(at, format::PLACES_FIELD)?;
-    let (count, start) = src.field_at(next, format::EDGES_FIELD)?;
+    let read = src.field_at(at, format::PLACES_FIELD);
+    let Ok((places, next)) = read else {
+        return Err(read.unwrap_err());
+    };
+    let read = src.field_at(next, format::EDGES_FIELD);
+    let Ok((count, start)) = read else {
+        return Err(read.unwrap_err());
+    };
     let size = GraphSize {
         places: places as usize,
         edges: count as usize,
@@ -131,7 +143,10 @@ pub fn read_graph(block: &[u8], words: u32, edges: &mut [u32]) -> Result<GraphSi
         × Sized result × EdgesOver (graph_block words block.now) edges.old edges.new }
 {
     let src = Source::Block(block, Refusal::UtteranceEnd);
-    let (_, next) = src.field_at(0, format::GRAPH_KIND_FIELD)?;
+    let read = src.field_at(0, format::GRAPH_KIND_FIELD);
+    let Ok((_, next)) = read else {
+        return Err(read.unwrap_err());
+    };
     let (size, end) = read_body(src, next, words, edges)?;
     if bit_reader::zero_from(block, end) {
         return Ok(size);

@@ -1,8 +1,5 @@
 -- When a block is too short, and the stages of a node: each way out of the reader is one of them. Assumes nothing.
-use Rattle.std.proofs.Common.{Result, Ok, Err, IfOk, Some, None}
-use Rattle.std.proofs.lemmas.Result.{IfOk-at_ok}
-use Rattle.std.specs.Result.{result_ok}
-use mathlib.Core.Path.{◌≡◌, refl, sym}
+use mathlib.Core.Path.{◌≡◌}
 use mathlib.Core.List.{List}
 use mathlib.Core.Option.{none, some}
 use Prim.Native.Nat.{ℕ, ◌+◌, ◌*◌, ◌/◌, ◌<◌}
@@ -16,10 +13,7 @@ use Rattle.packing.specs.declared.Sym.{Sym}
 use Rattle.packing.specs.declared.Word as W
 use Rattle.packing.specs.declared.Rule as R
 use Rattle.packing.specs.declared.Rule.TheVariants.{Pair, Word}
-use Rattle.packing.specs.Read.{as_parse}
-use Rattle.packing.specs.Refusal.{number}
-use Rattle.packing.specs.declared.refusal.Refusal.{Refusal}
-use Rattle.packing.specs.Parse.{Parse, parsed, failed}
+use Rattle.packing.specs.Parse.{parsed, failed}
 use Rattle.packing.specs.Source.{Source, field_at}
 use Rattle.packing.specs.Reading.{rule_number}
 use Rattle.packing.specs.GraphReading.{edge_number}
@@ -32,26 +26,6 @@ bytes_lack m n = go (dec_lt (8 * m) n)
     go : Dec (8 * m < n) → ltb m ((n + 7) / 8) ≡ ltb (8 * m) n
     go (yes h) = rw (lt-ltb (8 * m) n h, lt-ltb m ((n + 7) / 8) (omega arith))
     go (no h) = rw (le-ltb (8 * m) n (omega arith), le-ltb m ((n + 7) / 8) (omega arith))
-
--- what a result's value or error says, where `ok` told which it is
-module _ {A E : Type 0} where
-  ok_is : (r : Result A E) {x : A} → Some x ≡ result_ok r → r ≡ Ok x
-  ok_is (Ok y) e = cc
-  ok_is (Err y) e = cc
-
-  pub so_of : (r : Result A E) (P : A → Type 0) {x : A} → IfOk r P → Some x ≡ result_ok r → P x
-  so_of r P h e = IfOk-at_ok P (ok_is r e) h
-
-  err_is : (r : Result A E) → None ≡ result_ok r → (y : E) × (r ≡ Err y)
-  err_is (Ok y) e = cc
-  err_is (Err y) e = (y, refl)
-
-module _ (r : Result (ℕ × ℕ) Refusal) {p : Parse ℕ} (e : as_parse r ≡ p) where
-  pub was_read : {v next w : ℕ} → Some (v, next) ≡ result_ok r → w ≡ v → p ≡ parsed w next
-  was_read {v} {next} o q = rw q (sym (rw (ok_is r o) at e))
-
-  pub was_refused : None ≡ result_ok r → (n : ℕ) × (p ≡ failed n)
-  was_refused o = let (y, q) = err_is r o in (number y, sym (rw q at e))
 
 -- a node
 module _ (rules : List R.Rule) (src : Source) (at : ℕ) where

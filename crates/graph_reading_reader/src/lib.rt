@@ -50,7 +50,10 @@ pub fn read_head(block: &[u8], most: usize, rules: usize) -> Result<(GraphHead, 
     requires { (most ≤ MAX_PATH_EDGES) × (1 ≤ rules) × (rules ≤ MAX_RULES) }
     ensures { (as_parse_by head_of result ≡ to_end rules (graph_head_from most rules block.now)) × InPath most result }
 {
-    let (_, at) = reading_reader::number(block, 0, format::GRAPH_READING_KIND_FIELD)?;
+    let read = reading_reader::number(block, 0, format::GRAPH_READING_KIND_FIELD);
+    let Ok((_, at)) = read else {
+        return Err(read.unwrap_err());
+    };
     let path = Field {
         width: format::PATH_EDGES_WIDTH,
         least: 1,
@@ -58,13 +61,19 @@ pub fn read_head(block: &[u8], most: usize, rules: usize) -> Result<(GraphHead, 
         below: Refusal::ReadingSlots,
         above: Refusal::ReadingSlots,
     };
-    let (n, next) = reading_reader::number(block, at, path)?;
+    let read = reading_reader::number(block, at, path);
+    let Ok((n, next)) = read else {
+        return Err(read.unwrap_err());
+    };
     let edges = n as usize;
     let end = reading_bits(edges, rules);
     if is_short(block, end) {
         return Err(Refusal::ReadingEnd);
     }
-    let (weight, _) = reading_reader::number(block, next, format::READING_WEIGHT_FIELD)?;
+    let read = reading_reader::number(block, next, format::READING_WEIGHT_FIELD);
+    let Ok((weight, _)) = read else {
+        return Err(read.unwrap_err());
+    };
     Ok((GraphHead { edges, weight }, end))
 }
 
@@ -73,7 +82,9 @@ pub fn read_node(rules: &[u32], count: usize, block: &[u8], at: usize) -> Option
     requires { (at < 2 ^ 31) × (1 ≤ count) × (count ≤ MAX_RULES) }
     ensures { NodeAs rules.now at (node_from (rules_of rules.now count) (bytes 31 block.now) at) result }
 {
-    let (r, next) = reading_reader::read_number(block, at, count).ok()?;
+    let Ok((r, next)) = reading_reader::read_number(block, at, count) else {
+        return None;
+    };
     let rule = arrays::wide(r);
     if count <= rule {
         return None;
@@ -81,7 +92,10 @@ pub fn read_node(rules: &[u32], count: usize, block: &[u8], at: usize) -> Option
     match arrays::rule_at(rules, rule) {
         Rule::Pair(..) => Some((Node { rule, edge: 0 }, next)),
         Rule::Word(..) => {
-            let (e, end) = reading_reader::number(block, next, format::EDGE_NUMBER_FIELD).ok()?;
+            let read = reading_reader::number(block, next, format::EDGE_NUMBER_FIELD);
+            let Ok((e, end)) = read else {
+                return None;
+            };
             let edge = arrays::wide(e);
             Some((Node { rule, edge }, end))
         }

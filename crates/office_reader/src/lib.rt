@@ -57,8 +57,14 @@ fn read_item(sheet: &[u32], at: usize, v: Vocabulary, count: u32) -> Result<usiz
     ensures { reached result ≡ place_of (item_from sheet.now v.symbols v.words count at) }
 {
     let src = Source::Sheet(sheet);
-    let (kind, at) = src.field_at(at, kind_field(count))?;
-    let (_, at) = src.field_at(at, v.first(kind))?;
+    let read = src.field_at(at, kind_field(count));
+    let Ok((kind, at)) = read else {
+        return Err(read.unwrap_err());
+    };
+    let read = src.field_at(at, v.first(kind));
+    let Ok((_, at)) = read else {
+        return Err(read.unwrap_err());
+    };
     Ok(at)
 }
 
@@ -81,9 +87,18 @@ fn read_rule(sheet: &[u32], at: usize, v: Vocabulary) -> Result<usize, Refusal>
     ensures { reached result ≡ place_of (office_rule_from sheet.now v.symbols v.words at) }
 {
     let src = Source::Sheet(sheet);
-    let (_, at) = src.field_at(at, v.symbol())?;
-    let (_, at) = src.field_at(at, WEIGHT_FIELD)?;
-    let (count, at) = src.field_at(at, ITEM_COUNT_FIELD)?;
+    let read = src.field_at(at, v.symbol());
+    let Ok((_, at)) = read else {
+        return Err(read.unwrap_err());
+    };
+    let read = src.field_at(at, WEIGHT_FIELD);
+    let Ok((_, at)) = read else {
+        return Err(read.unwrap_err());
+    };
+    let read = src.field_at(at, ITEM_COUNT_FIELD);
+    let Ok((count, at)) = read else {
+        return Err(read.unwrap_err());
+    };
     read_items(sheet, at, v, count)
 }
 

@@ -51,7 +51,10 @@ pub fn read_reading(
     ensures { (as_parse result ≡ weight_of (reading_from n rules block.now))
         × WalkIn (reading_from n rules block.now) walk.new × Near result }
 {
-    let (_, at) = number(block, 0, format::READING_KIND_FIELD)?;
+    let read = number(block, 0, format::READING_KIND_FIELD);
+    let Ok((_, at)) = read else {
+        return Err(read.unwrap_err());
+    };
     let slots = Field {
         width: format::SLOTS_WIDTH,
         least: n as u32,
@@ -59,10 +62,21 @@ pub fn read_reading(
         below: Refusal::ReadingSlots,
         above: Refusal::ReadingSlots,
     };
-    let (_, at) = number(block, at, slots)?;
-    let (weight, mut at) = number(block, at, format::READING_WEIGHT_FIELD)?;
+    let read = number(block, at, slots);
+    let Ok((_, at)) = read else {
+        return Err(read.unwrap_err());
+    };
+    let read = number(block, at, format::READING_WEIGHT_FIELD);
+    let Ok((weight, mut at)) = read else {
+        return Err(read.unwrap_err());
+    };
     for number in &mut walk[..2 * n - 1] {
-        (*number, at) = read_number(block, at, rules)?;
+        let read = read_number(block, at, rules);
+        let Ok((rule, next)) = read else {
+            return Err(read.unwrap_err());
+        };
+        *number = rule;
+        at = next;
     }
     Ok((weight, at))
 }

@@ -4,13 +4,15 @@
 
 mod rule; // rule.rt: S and W, the fields that depend on them, and a rule's numbers
 
-ghost use Rattle.std.specs.Prelude.{◌≡◌, ◌+◌, ◌*◌, ◌^◌, ◌≤◌, ◌<◌, length};
+ghost use Rattle.std.specs.Prelude.{◌≡◌, ◌+◌, ◌*◌, ◌^◌, ◌≤◌, ◌<◌, length, IfOk};
 ghost use Rattle.packing.specs.Read.{source_of, as_parse, as_parse_by};
 ghost use Rattle.packing.specs.Store.{store_all};
-ghost use Rattle.packing.specs.Grammar.{mark_from, marked_rule_from};
-ghost use Rattle.rules_reader.specs.Rules.{marked_by, Near, row, key_of, among, filter_place, Filtered, RulesTold};
+ghost use Rattle.packing.specs.Grammar.{mark_from, rule_from, marked_rule_from};
+ghost use Rattle.rules_reader.specs.Rules.{rule_by, marked_by, Near, row, key_of, among, filter_place, Filtered, RulesTold};
 
-use packing::format::{MAX_MARKED_RULE_WIDTH, MAX_RULES, NUMBERS_PER_RULE, RULES_LENGTH};
+use packing::format::{
+    MAX_MARKED_RULE_WIDTH, MAX_RULE_WIDTH, MAX_RULES, NUMBERS_PER_RULE, RULES_LENGTH, UNMARKED,
+};
 use packing::refusal::Refusal;
 use packing::{Source, format};
 use rule::RuleNumbers;
@@ -32,32 +34,62 @@ fn read_mark(src: Source, at: usize, marked: bool) -> Result<(u32, usize), Refus
     if marked {
         return src.field_at(at, format::MARK_FIELD);
     }
-    Ok((format::UNMARKED, at))
+    Ok((UNMARKED, at))
 }
 
-// The rule at a place of the source with its mark, and the next place.
-#[tactic(auto, unfolding(packing::specs::Grammar::rule_from, packing::specs::Grammar::marked_rule_from))]
-fn read_rule(src: Source, at: usize, form: RulesForm) -> Result<(RuleNumbers, usize), Refusal>
+// The five numbers of a rule at a place of the source, with no mark, and the next place.
+// Document 01 names the form in which blocks' readers take each field's answer apart and hand its refusal up: `let .. else`, not `?`.
+#[tactic(auto, unfolding(packing::specs::Grammar::rule_from))]
+fn read_numbers(src: Source, at: usize, v: Vocabulary) -> Result<(RuleNumbers, usize), Refusal>
     requires { at < 2 ^ 16 }
-    ensures { (as_parse_by marked_by result
-        ≡ marked_rule_from form.marked (source_of src.entry) form.vocabulary.symbols form.vocabulary.words at)
-        × Near (at + MAX_MARKED_RULE_WIDTH) result }
+    ensures { (as_parse_by rule_by result ≡ rule_from (source_of src.entry) v.symbols v.words at) × Near (at + MAX_RULE_WIDTH) result
+        × IfOk result (λ read. read.0.mark ≡ UNMARKED) }
 {
-    let v = form.vocabulary;
-    let (kind, at) = src.field_at(at, format::RULE_KIND_FIELD)?;
-    let (head, at) = src.field_at(at, v.symbol())?;
-    let (weight, at) = src.field_at(at, format::WEIGHT_FIELD)?;
-    let (first, at) = src.field_at(at, v.first(kind))?;
-    let (second, at) = src.field_at(at, v.second(kind))?;
-    let (mark, at) = read_mark(src, at, form.marked)?;
+    let read = src.field_at(at, format::RULE_KIND_FIELD);
+    let Ok((kind, at)) = read else {
+        return Err(read.unwrap_err());
+    };
+    let read = src.field_at(at, v.symbol());
+    let Ok((head, at)) = read else {
+        return Err(read.unwrap_err());
+    };
+    let read = src.field_at(at, format::WEIGHT_FIELD);
+    let Ok((weight, at)) = read else {
+        return Err(read.unwrap_err());
+    };
+    let read = src.field_at(at, v.first(kind));
+    let Ok((first, at)) = read else {
+        return Err(read.unwrap_err());
+    };
+    let read = src.field_at(at, v.second(kind));
+    let Ok((second, at)) = read else {
+        return Err(read.unwrap_err());
+    };
     let rule = RuleNumbers {
         kind,
         head,
         weight,
         first,
         second,
-        mark,
+        mark: UNMARKED,
     };
+    Ok((rule, at))
+}
+
+// The rule at a place of the source with its mark, and the next place.
+#[tactic(auto, unfolding(packing::specs::Grammar::marked_rule_from))]
+fn read_rule(src: Source, at: usize, form: RulesForm) -> Result<(RuleNumbers, usize), Refusal>
+    requires { at < 2 ^ 16 }
+    ensures { (as_parse_by marked_by result
+        ≡ marked_rule_from form.marked (source_of src.entry) form.vocabulary.symbols form.vocabulary.words at)
+        × Near (at + MAX_MARKED_RULE_WIDTH) result }
+{
+    let (mut rule, at) = read_numbers(src, at, form.vocabulary)?;
+    let read = read_mark(src, at, form.marked);
+    let Ok((mark, at)) = read else {
+        return Err(read.unwrap_err());
+    };
+    rule.mark = mark;
     Ok((rule, at))
 }
 

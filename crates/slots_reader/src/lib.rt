@@ -55,8 +55,14 @@ pub fn read_candidate(
     requires { (at < 2 ^ 31) × (0 < words) × (words ≤ MAX_WORDS) }
     ensures { as_parse_by candidate_of result ≡ candidate_from (source_of src.entry) words least at }
 {
-    let (word, next) = src.field_at(at, word_field(words, least))?;
-    let (cost, end) = src.field_at(next, format::COST_FIELD)?;
+    let read = src.field_at(at, word_field(words, least));
+    let Ok((word, next)) = read else {
+        return Err(read.unwrap_err());
+    };
+    let read = src.field_at(next, format::COST_FIELD);
+    let Ok((cost, end)) = read else {
+        return Err(read.unwrap_err());
+    };
     Ok((Candidate { word, cost }, end))
 }
 
@@ -99,7 +105,10 @@ fn read_slot(src: Source, p: Places, words: u32, slots: &mut [u32]) -> Result<Pl
     requires { (p.at < 2 ^ 29) × (p.to + SLOT_LENGTH ≤ length slots.old) × (0 < words) × (words ≤ MAX_WORDS) }
     ensures { PlacedAs (one_slot_numbers words) slots.old p.to slots.new (slot_from (source_of src.entry) words p.at) result }
 {
-    let (n, at) = src.field_at(p.at, format::CANDIDATES_FIELD)?;
+    let read = src.field_at(p.at, format::CANDIDATES_FIELD);
+    let Ok((n, at)) = read else {
+        return Err(read.unwrap_err());
+    };
     slots[p.to] = n;
     let behind = Places { at, to: p.to + 1 };
     read_candidates(src, behind, words, n as usize, slots)

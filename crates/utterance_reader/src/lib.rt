@@ -31,7 +31,10 @@ fn read_utterance(
     requires { (at < 2 ^ 27) × (SLOTS_LENGTH ≤ length slots.old) × (0 < words) × (words ≤ MAX_WORDS) }
     ensures { SlotsAs words slots.new (utterance_from (source_of src.entry) words at) result }
 {
-    let (n, next) = src.field_at(at, format::SLOTS_FIELD)?;
+    let read = src.field_at(at, format::SLOTS_FIELD);
+    let Ok((n, next)) = read else {
+        return Err(read.unwrap_err());
+    };
     let count = n as usize;
     let end = slots_reader::read_slots(src, next, words, count, slots)?;
     let size = UtteranceSize {
@@ -49,7 +52,10 @@ pub fn read_block(block: &[u8], words: u32, slots: &mut [u32]) -> Result<Utteran
         × SlotsIn words (utterance_block words block.now) slots.new × Sized result }
 {
     let src = Source::Block(block, Refusal::UtteranceEnd);
-    let (_, next) = src.field_at(0, format::UTTERANCE_KIND_FIELD)?;
+    let read = src.field_at(0, format::UTTERANCE_KIND_FIELD);
+    let Ok((_, next)) = read else {
+        return Err(read.unwrap_err());
+    };
     let (size, end) = read_utterance(src, next, words, slots)?;
     if bit_reader::zero_from(block, end) {
         return Ok(size);

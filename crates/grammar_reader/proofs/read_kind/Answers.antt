@@ -5,11 +5,11 @@ use mathlib.Core.List.{List}
 use Prim.Native.Nat.{ℕ, ◌≤◌}
 use native.Mathlib.Omega.{arith}
 use borrow.Author.Rules.{rules}
-use Rattle.std.specs.Prelude.{Result, Ok, Err}
+use Rattle.std.specs.Prelude.{Result, Err}
 use Rattle.bits.specs.Bits.{ended}
-use Rattle.packing.specs.Parse.{parsed, failed, refused, finish}
+use Rattle.packing.specs.Parse.{parsed, failed, finish}
 use Rattle.packing.specs.Source.{bytes, field_at, Field}
-use Rattle.packing.specs.Read.{as_verdict}
+use Rattle.packing.specs.Refusal.{number}
 use Rattle.packing.specs.Grammar.{block_kind, kind_number, grammar_from, block_by}
 use Rattle.packing.specs.declared.refusal.Refusal.{Refusal}
 use Rattle.rules_reader.proofs.Taken.{taken}
@@ -20,11 +20,10 @@ use Rattle.grammar_reader.proofs.read_kind.Goals as goal
 
 -- after the kind, or without it
 module _ (s : List ℕ) (b : Bool) {f : Field} (same : f ≡ block_kind (kind_number b) 2) where
-  no_kind : {n : ℕ} {before rules marks : List ℕ} (r : Result (Sizes × Bool) Refusal) → as_verdict r ≡ refused n → failed n ≡ field_at (bytes 1 s) 0 f
-      → MarkedTold (block_by b s) r before rules marks
+  no_kind : {before rules marks : List ℕ} (r : Refusal) → failed (number r) ≡ field_at (bytes 1 s) 0 f
+      → MarkedTold (block_by b s) (Err r) before rules marks
   unfolding block_by
-  no_kind (Ok (z, m)) d e = cc
-  no_kind (Err r) d e = rw (← rw same at e) (record { answer = d; stands = tt; laid = tt; bounds = tt })
+  no_kind r e = rw (← rw same at e) (record { answer = refl; stands = tt; laid = tt; bounds = tt })
 
   after_kind : {v at : ℕ} {r : Result (Sizes × Bool) Refusal} {before rules marks : List ℕ} → parsed v at ≡ field_at (bytes 1 s) 0 f
       → MarkedTold (finish (ended s) 7 (grammar_from b (bytes 1 s) at)) r before rules marks → MarkedTold (block_by b s) r before rules marks
@@ -34,31 +33,33 @@ module _ (s : List ℕ) (b : Bool) {f : Field} (same : f ≡ block_kind (kind_nu
   kind_near : {v next : ℕ} → parsed v next ≡ field_at (bytes 1 s) 0 f → next ≤ 4
   kind_near e = (taken (block_kind (kind_number b) 2) 4 (bytes 1 s) 0 (omega arith) (omega arith) (sym (rw same at e))).1
 
-pub returns-in_err-at : goal.returns-in_err-at
-returns-in_err-at c = no_kind _ _ c.kind_field.ensures.0 c.from_residual.result (search rules) c.in_err-at.ensures
+pub returns-in_default : goal.returns-in_default
+returns-in_default c =
+    let told : c.in_default.field-0 ≡ c.unwrap_err.result = cc in
+    no_kind _ _ c.kind_field.ensures.0 _ (rw told at c.in_default.ensures)
 
 pub read_grammar-requires : goal.read_grammar-requires
 read_grammar-requires c =
-    (omega (arith, kind_near c.args.block.now c.args.marked c.kind_field.ensures.0 c.in_ok-at.ensures), c.requires.0, c.requires.1)
+    (omega (arith, kind_near c.args.block.now c.args.marked c.kind_field.ensures.0 c.in-Ok.ensures), c.requires.0, c.requires.1)
 
 pub zero_from-requires : goal.zero_from-requires
 zero_from-requires c =
-    omega (arith, kind_near c.args.block.now c.args.marked c.kind_field.ensures.0 c.in_ok-at.ensures, c.in_ok-sizes.ensures.near)
+    omega (arith, kind_near c.args.block.now c.args.marked c.kind_field.ensures.0 c.in-Ok.ensures, c.in_ok-sizes.ensures.near)
 
 pub returns-in_err-sizes : goal.returns-in_err-sizes
 returns-in_err-sizes c =
     let block = c.args.block.now in
-    after_kind block _ c.kind_field.ensures.0 c.in_ok-at.ensures
-    (end_refused _ (bytes 1 block) _ _ _ _ (ended block) 7 c.from_residual-in_err-sizes.result (search rules) c.in_err-sizes.ensures)
+    after_kind block _ c.kind_field.ensures.0 c.in-Ok.ensures
+    (end_refused _ (bytes 1 block) _ _ _ _ (ended block) 7 c.from_residual.result (search rules) c.in_err-sizes.ensures)
 
 pub returns-then-not-zero_from : goal.returns-then-not-zero_from
 returns-then-not-zero_from c =
     let block = c.args.block.now in
-    after_kind block _ c.kind_field.ensures.0 c.in_ok-at.ensures
+    after_kind block _ c.kind_field.ensures.0 c.in-Ok.ensures
     (end_failed _ (bytes 1 block) _ _ _ _ (ended block) 7 c.in_ok-sizes.ensures refl (sym c.zero_from.ensures ∙ c.if-not-zero_from.true))
 
 pub returns : goal.returns
 returns c =
     let block = c.args.block.now in
-    after_kind block _ c.kind_field.ensures.0 c.in_ok-at.ensures
+    after_kind block _ c.kind_field.ensures.0 c.in-Ok.ensures
     (end_passed _ (bytes 1 block) _ _ _ _ (ended block) 7 c.in_ok-sizes.ensures (sym c.zero_from.ensures ∙ c.if-not-zero_from.false))

@@ -12,15 +12,15 @@ use Rattle.graph_reader.proofs.read_graph.Goals as goal
 
 pub read_body-requires : goal.read_body-requires
 read_body-requires c =
-    omega (arith, field_at_next (block_kind 5 12) (bytes 11 c.args.block.now) 0 4 (omega arith) (omega arith) (sym c.in_ok-next.ensures))
+    omega (arith, field_at_next (block_kind 5 12) (bytes 11 c.args.block.now) 0 4 (omega arith) (omega arith) (sym c.in-Ok.ensures))
 
 pub zero_from-requires : goal.zero_from-requires
 zero_from-requires c =
     let s = c.args.block.now in
     omega (
       arith,
-      field_at_next (block_kind 5 12) (bytes 11 s) 0 4 (omega arith) (omega arith) (sym c.in_ok-next.ensures),
-      graph_near (bytes 11 s) c.args.words (omega arith) c.in_ok-next.next c.in_ok-size.ensures.1,
+      field_at_next (block_kind 5 12) (bytes 11 s) 0 4 (omega arith) (omega arith) (sym c.in-Ok.ensures),
+      graph_near (bytes 11 s) c.args.words (omega arith) c.in-Ok.next c.in_ok-size.ensures.1,
     )
 
 pub returns-then-zero_from : goal.returns-then-zero_from
@@ -28,5 +28,5 @@ unfolding graph_block
 returns-then-zero_from c =
     let a = c.args in
     let (g, e, size, laid) = c.in_ok-size.ensures in
-    let is : graph_block a.words a.block.now ≡ accepted g = rw (← c.in_ok-next.ensures, e, ← c.if-zero_from.ensures) in
+    let is : graph_block a.words a.block.now ≡ accepted g = rw (← c.in-Ok.ensures, e, ← c.if-zero_from.ensures) in
     promised_graph a.words _ _ is (graph_block_out a.words a.block.now g is).0 size laid

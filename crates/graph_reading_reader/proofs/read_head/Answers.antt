@@ -8,12 +8,12 @@ use Rattle.graph_reading_reader.proofs.read_head.Goals as goal
 
 pub reading_bits-end-requires : goal.reading_bits-end-requires
 reading_bits-end-requires c =
-    omega (arith, field_at_range (path_edges c.args.most) (bytes 31 c.args.block.now) c.in_ok-at.at (sym c.in_ok-n.ensures.value))
+    omega (arith, field_at_range (path_edges c.args.most) (bytes 31 c.args.block.now) c.in-Ok.at (sym c.in-Ok-read.ensures.value))
 
 pub returns : goal.returns
 unfolding graph_head_from
 returns c =
-    let n = field_at_range (path_edges c.args.most) (bytes 31 c.args.block.now) c.in_ok-at.at (sym c.in_ok-n.ensures.value) in
+    let n = field_at_range (path_edges c.args.most) (bytes 31 c.args.block.now) c.in-Ok.at (sym c.in-Ok-read.ensures.value) in
     let long = rw c.reading_bits-end.ensures.0 at (sym c.is_short.ensures ∙ c.if-is_short.false) in
-    rw (← c.in_ok-at.ensures.value, ← c.in_ok-n.ensures.value, long, ← c.in_ok-weight.ensures.value, c.reading_bits-end.ensures.0)
+    rw (← c.in-Ok.ensures.value, ← c.in-Ok-read.ensures.value, long, ← c.in-Ok-read-2.ensures.value, c.reading_bits-end.ensures.0)
     (refl, omega (arith, n, c.reading_bits-end.ensures.1))

@@ -5,7 +5,7 @@ use Rattle.office.specs.Sheet.{item_kind}
 use Rattle.rules_reader.proofs.Taken.{taken}
 use Rattle.office_reader.proofs.read_item.Goals as goal
 
-pub field_at-requires-2 : goal.field_at-requires-2
-field_at-requires-2 c =
-    let kind = taken (item_kind c.args.count) 1 _ _ (omega arith) (omega arith) (sym (rw c.kind_field.ensures.0 at c.in_ok-kind.ensures)) in
+pub field_at-read-requires-2 : goal.field_at-read-requires-2
+field_at-read-requires-2 c =
+    let kind = taken (item_kind c.args.count) 1 _ _ (omega arith) (omega arith) (sym (rw c.kind_field.ensures.0 at c.in-Ok.ensures)) in
     (omega (arith, kind), omega (arith, c.first.ensures.1))

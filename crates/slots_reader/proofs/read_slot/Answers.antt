@@ -14,8 +14,8 @@ pub read_candidates-requires : goal.read_candidates-requires
 read_candidates-requires c =
     let a = c.args in
     let src = source_of a.src in
-    let n = field_at_range candidate_count src a.p.at (sym c.in_ok-n.ensures) in
-    let m = field_at_next candidate_count src a.p.at 3 (omega arith) (omega arith) (sym c.in_ok-n.ensures) in
+    let n = field_at_range candidate_count src a.p.at (sym c.in-Ok.ensures) in
+    let m = field_at_next candidate_count src a.p.at 3 (omega arith) (omega arith) (sym c.in-Ok.ensures) in
     simp length-set (omega arith)
 
 pub returns : goal.returns
@@ -23,6 +23,6 @@ unfolding slot_from
 returns c =
     let a = c.args in
     let src = source_of a.src in
-    rw (← c.in_ok-n.ensures)
+    rw (← c.in-Ok.ensures)
     (slot_placed a.words _ _ _ _ _ c.read_candidates.result c.read_candidates.ensures
-    (λ cs next e. omega (arith, candidates_near src a.words (omega arith) c.in_ok-n.n 0 c.in_ok-n.at [] e)))
+    (λ cs next e. omega (arith, candidates_near src a.words (omega arith) c.in-Ok.n 0 c.in-Ok.at [] e)))

@@ -12,15 +12,15 @@ use Rattle.utterance_reader.proofs.read_block.Goals as goal
 
 pub read_utterance-requires : goal.read_utterance-requires
 read_utterance-requires c =
-    omega (arith, field_at_next (block_kind 2 12) (bytes 11 c.args.block.now) 0 4 (omega arith) (omega arith) (sym c.in_ok-next.ensures))
+    omega (arith, field_at_next (block_kind 2 12) (bytes 11 c.args.block.now) 0 4 (omega arith) (omega arith) (sym c.in-Ok.ensures))
 
 pub zero_from-requires : goal.zero_from-requires
 zero_from-requires c =
     let s = c.args.block.now in
     omega (
       arith,
-      field_at_next (block_kind 2 12) (bytes 11 s) 0 4 (omega arith) (omega arith) (sym c.in_ok-next.ensures),
-      utterance_near (bytes 11 s) c.args.words c.in_ok-next.next (omega arith) c.in_ok-size.ensures.1,
+      field_at_next (block_kind 2 12) (bytes 11 s) 0 4 (omega arith) (omega arith) (sym c.in-Ok.ensures),
+      utterance_near (bytes 11 s) c.args.words c.in-Ok.next (omega arith) c.in_ok-size.ensures.1,
     )
 
 pub returns-then-zero_from : goal.returns-then-zero_from
@@ -28,5 +28,5 @@ unfolding utterance_block
 returns-then-zero_from c =
     let a = c.args in
     let (u, e, size, h) = c.in_ok-size.ensures in
-    let is : utterance_block a.words a.block.now ≡ accepted u = rw (← c.in_ok-next.ensures, e, ← c.if-zero_from.ensures) in
+    let is : utterance_block a.words a.block.now ≡ accepted u = rw (← c.in-Ok.ensures, e, ← c.if-zero_from.ensures) in
     promised_slots a.words _ is (utterance_block_out a.words a.block.now u is).0 size h

@@ -22,8 +22,8 @@ read_slots-requires c =
     let src = source_of a.src in
     omega (
       arith,
-      field_at_range slot_count src a.at (sym c.in_ok-n.ensures),
-      field_at_next slot_count src a.at 6 (omega arith) (omega arith) (sym c.in_ok-n.ensures),
+      field_at_range slot_count src a.at (sym c.in-Ok.ensures),
+      field_at_next slot_count src a.at 6 (omega arith) (omega arith) (sym c.in-Ok.ensures),
     )
 
 pub returns : goal.returns
@@ -32,7 +32,7 @@ returns c =
     let a = c.args in
     let src = source_of a.src in
     let (u, e, to, s) = c.in_ok-end.ensures in
-    let read : utterance_from src a.words a.at ≡ parsed u c.in_ok-end.end.at = rw (← c.in_ok-n.ensures) e in
+    let read : utterance_from src a.words a.at ≡ parsed u c.in_ok-end.end.at = rw (← c.in-Ok.ensures) e in
     let size = valid_size a.words u (taken_fits (utterance_out src a.words a.at read)) in
-    let n : length u ≡ c.in_ok-n.n = omega (arith, slots_near src a.words (omega arith) c.in_ok-n.n c.in_ok-n.next [] e) in
+    let n : length u ≡ c.in-Ok.n = omega (arith, slots_near src a.words (omega arith) c.in-Ok.n c.in-Ok.next [] e) in
     (u, read, rw (to, zero-add, n), rw s (stored_begins a.slots.now (slot_numbers a.words u) (omega arith)))
