@@ -3,7 +3,6 @@
 
 ghost use Rattle.std.specs.Prelude.{◌≡◌, ◌<◌, pos, neg_ℤ};
 ghost use Rattle.packing.specs.Read.{as_verdict};
-ghost use Rattle.packing.specs.Refusal.{number};
 ghost use Rattle.codes.specs.Code.{code_of, Small};
 
 use packing::refusal::Refusal;
@@ -17,10 +16,11 @@ pub fn count(n: usize) -> i32
 }
 
 // A refusal as a C number.
-pub fn refusal(r: Refusal) -> i32
-    ensures { result ≡ neg_ℤ (pos (number r)) }
+pub fn refusal(n: u32) -> i32
+    requires { n < 2147483648 }
+    ensures { result ≡ neg_ℤ (pos n) }
 {
-    0 - (r.number() as i32)
+    0 - (n as i32)
 }
 
 // What a service answers that counts something, the bytes or numbers that it wrote or the entries that it found, as a C number.
@@ -30,7 +30,7 @@ pub fn counted_code(r: Result<usize, Refusal>) -> i32
 {
     match r {
         Ok(n) => count(n),
-        Err(r) => refusal(r),
+        Err(r) => refusal(r.number()),
     }
 }
 
@@ -38,5 +38,8 @@ pub fn counted_code(r: Result<usize, Refusal>) -> i32
 pub fn checked_code(r: Result<(), Refusal>) -> i32
     ensures { result ≡ code_of (λ u. 0) (as_verdict r) }
 {
-    counted_code(r.map(|()| 0))
+    match r {
+        Ok(()) => 0,
+        Err(refused) => refusal(refused.number()),
+    }
 }

@@ -131,7 +131,7 @@ pub fn spireyerba_chance(
             *chance = x;
             0
         }
-        Err(r) => refusal(r),
+        Err(r) => refusal(r.number()),
     }
 }
 
@@ -184,7 +184,7 @@ pub fn spireyerba_cost_ranges(
                 2
             }
         },
-        Err(r) => refusal(r),
+        Err(r) => refusal(r.number()),
     }
 }
 
@@ -211,7 +211,9 @@ pub fn spireyerba_open(grammar: &[u8], utterance: &[u8], place: &mut Place, work
         × onebyone.Open grammar.now utterance.now place.old work.old
         (returned result place.new work.new) }
 {
-    open_call(grammar, utterance, place, work)
+    let (code, after) = open_call(grammar, utterance, *place, work);
+    *place = after;
+    code
 }
 
 // One more reading of an open listing at the front of the output: 1, or 0 where there are no more and 2 where all that can be listed were handed
@@ -228,5 +230,7 @@ pub fn spireyerba_next(
         × onebyone.Next searched (lent grammar.now utterance.now place.old work.old out.old)
         (returned result place.new work.new) out.new }
 {
-    next_call(grammar, utterance, place, work, out)
+    let (code, after) = next_call(grammar, utterance, *place, work, out);
+    *place = after;
+    code
 }

@@ -6,7 +6,6 @@ use Prim.Native.Nat.{ℕ, suc, ◌+◌, ◌-◌, ◌*◌, ◌/◌, ◌≤◌}
 use native.Mathlib.Nat.{zero-mul, suc-mul, add-mul}
 use native.Mathlib.Omega.{arith}
 use lib.ListN.{length, take, length-append, length-map}
-use lib.Seq.{take-length}
 use Rattle.bits.specs.Width.{width_of}
 use Rattle.bits.specs.Fields.{widths}
 use Rattle.bits.proofs.Fields.{widths_append}
@@ -14,7 +13,7 @@ use Rattle.packing.specs.Meaning.{Candidate, candidate, Utterance}
 use Rattle.packing.specs.Parse.{Verdict, accepted, refused, ◌then◌}
 use Rattle.packing.specs.Source.{fld_of, flds}
 use Rattle.packing.specs.Utterance.{candidates_entries, slots_entries, utterance_entries, block_of_utterance, sheet_of_utterance}
-use Rattle.packing.specs.Flat.{slot_numbers, SlotsIn}
+use Rattle.packing.specs.Flat.{Begins, slot_numbers, SlotsIn}
 use Rattle.packing.proofs.Flat.{slots_of_lem}
 use Rattle.packing.proofs.Bounds.{length_candidates}
 use Rattle.packing.proofs.Parse.{accepted_is, refused≢accepted}
@@ -23,8 +22,8 @@ use Rattle.utterance_reader.specs.declared.UtteranceSize.{UtteranceSize}
 use Rattle.sheet_writer.specs.Arrays.{slots_fields, slots_bits, utterance_fields, block_of}
 
 module _ (W : ℕ) where
-  slots_in : (u : Utterance) → slots_fields W (slot_numbers W u) 0 (length u) ≡ flds (slots_entries W u)
-  slots_in u = ap (λ (v : Utterance). flds (slots_entries W v)) (slots_of_lem W u (slot_numbers W u) (take-length (slot_numbers W u)))
+  slots_in : (u : Utterance) (l : List ℕ) → Begins (slot_numbers W u) l → slots_fields W l 0 (length u) ≡ flds (slots_entries W u)
+  slots_in u l b = ap (λ (v : Utterance). flds (slots_entries W v)) (slots_of_lem W u l b)
 
   -- each slot has one number and three bits, and two numbers, and a word's and 16 bits, for each candidate
   candidates_bits : (cs : List Candidate) (least : ℕ) → widths (flds (candidates_entries W least cs)) ≡ length cs * (width_of (W - 1) + 16)
@@ -51,25 +50,24 @@ module _ (W : ℕ) where
       let h : (length (slot_numbers W u) - length u) / 2 ≡ k = omega arith in
       (omega arith, rw h b)
 
-  -- what a reader's answer tells of what is to be written, from the numbers l of the array
+  -- what a reader's answer tells of what is to be written, from an array l that begins with the numbers
   pub record Told (v : Verdict Utterance) (z : UtteranceSize) (l : List ℕ) : Type 0 where
-    pub size : (z.count ≤ length l) × (length l ≡ z.numbers)
-    pub bits : widths (slots_fields W l 0 z.count) ≡ slots_bits W z.count (length l)
+    pub size : z.count ≤ z.numbers
+    pub bits : widths (slots_fields W l 0 z.count) ≡ slots_bits W z.count z.numbers
     pub block : (v then λ u. accepted (block_of_utterance W u)) ≡ accepted (block_of (utterance_fields W z.count l))
-    pub sheet : (v then λ u. accepted (sheet_of_utterance W u)) ≡ accepted ((z.count ∷ []) ++ l)
+    pub sheet : (v then λ u. accepted (sheet_of_utterance W u)) ≡ accepted ((z.count ∷ []) ++ take z.numbers l)
 
-  made : (u : Utterance) → Told (accepted u) (utterance_size W u) (slot_numbers W u)
+  made : (u : Utterance) (l : List ℕ) → Begins (slot_numbers W u) l → Told (accepted u) (utterance_size W u) l
   unfolding block_of_utterance sheet_of_utterance utterance_entries
-  made u = record {
-    size = ((slots_bits_lem u).0, refl);
-    bits = rw (slots_in u) (slots_bits_lem u).1;
-    block = rw (slots_in u);
-    sheet = refl;
+  made u l b = record {
+    size = (slots_bits_lem u).0;
+    bits = rw (slots_in u l b) (slots_bits_lem u).1;
+    block = rw (slots_in u l b);
+    sheet = rw b;
   }
 
   pub told : (v : Verdict Utterance) {z : UtteranceSize} → accepted z ≡ (v then λ u. accepted (utterance_size W u)) → (l : List ℕ) → SlotsIn W v l
-      → Told v z (take z.numbers l)
+      → Told v z l
   told (accepted u) {z} e l b =
-      let s : utterance_size W u ≡ z = sym (accepted_is e) in
-      subst (λ (y : UtteranceSize). Told (accepted u) y (take y.numbers l)) s (subst (Told (accepted u) (utterance_size W u)) (sym b) (made u))
+      let s : utterance_size W u ≡ z = sym (accepted_is e) in subst (λ (y : UtteranceSize). Told (accepted u) y l) s (made u l b)
   told (refused n) e l b = absurd (refused≢accepted (sym e))

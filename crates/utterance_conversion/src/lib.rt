@@ -18,7 +18,7 @@ fn sheet_to_block(words: u32, sheet: &[u32], out: &mut [u8]) -> Result<usize, Re
 {
     let mut slots = [0u32; SLOTS_LENGTH];
     let u = utterance_reader::read_sheet(sheet, words, &mut slots)?;
-    write_utterance(out, words, u.count, &slots[..u.numbers])
+    write_utterance(out, words, u.count, u.numbers, &slots)
 }
 
 // The sheet of an utterance block under a grammar of `words` words.

@@ -65,14 +65,13 @@ fn write_slots(out: &mut [u8], start: usize, slots: &[u32], n: usize, words: u32
     }
 }
 
-// The length of the block of an utterance whose n slots are the numbers of `slots`.
-fn utterance_length(words: u32, n: usize, slots: &[u32]) -> usize
-    requires { (1 ≤ words) × (words ≤ MAX_WORDS) × (n ≤ MAX_SLOTS) × (n ≤ length slots.now) × (length slots.now ≤ SLOTS_LENGTH)
-        × (widths (slots_fields words slots.now 0 n) ≡ slots_bits words n (length slots.now)) }
-    ensures { result ≡ length (block_of (utterance_fields words n slots.now)) }
+// The length of the block of an utterance whose n slots have `numbers` numbers together.
+fn utterance_length(words: u32, n: usize, numbers: usize) -> usize
+    requires { (1 ≤ words) × (words ≤ MAX_WORDS) × (n ≤ MAX_SLOTS) × (n ≤ numbers) × (numbers ≤ SLOTS_LENGTH) }
+    ensures { result ≡ (UTTERANCE_HEAD + slots_bits words n numbers + 7) / 8 }
 {
     let width = width_below(words as usize);
-    let candidates = (slots.len() - n) / NUMBERS_PER_CANDIDATE;
+    let candidates = (numbers - n) / NUMBERS_PER_CANDIDATE;
     let bits = CANDIDATES_WIDTH * n + candidates * (width + COST_WIDTH);
     (UTTERANCE_HEAD + bits).div_ceil(8)
 }
@@ -88,19 +87,20 @@ fn write_fields(out: &mut [u8], words: u32, n: usize, slots: &[u32])
     write_slots(out, UTTERANCE_HEAD, slots, n, words);
 }
 
-// The block of an utterance whose n slots are the numbers of `slots`, in front of what stands beyond it.
+// The block of an utterance whose n slots are the first `numbers` numbers of an array, in front of what stands beyond it.
 #[tactic(auto, unfolding(packing::specs::Conversion::fitting))]
 pub fn write_utterance(
     out: &mut [u8],
     words: u32,
     n: usize,
+    numbers: usize,
     slots: &[u32],
 ) -> Result<usize, Refusal>
-    requires { (1 ≤ words) × (words ≤ MAX_WORDS) × (n ≤ MAX_SLOTS) × (n ≤ length slots.now) × (length slots.now ≤ SLOTS_LENGTH)
-        × (widths (slots_fields words slots.now 0 n) ≡ slots_bits words n (length slots.now)) }
+    requires { (1 ≤ words) × (words ≤ MAX_WORDS) × (n ≤ MAX_SLOTS) × (n ≤ numbers) × (numbers ≤ SLOTS_LENGTH)
+        × (widths (slots_fields words slots.now 0 n) ≡ slots_bits words n numbers) }
     ensures { Writes (accepted (block_of (utterance_fields words n slots.now))) out.old result out.new }
 {
-    let length = utterance_length(words, n, slots);
+    let length = utterance_length(words, n, numbers);
     if out.len() < length {
         return Err(Refusal::OutputShort);
     }

@@ -12,26 +12,26 @@ pub returns-in-Reading : goal.returns-in-Reading
 returns-in-Reading c =
     let a = c.args in
     let e = c.in-Ok.ensures in
-    answered a.grammar.now a.utterance.now a.place.now a.work.now a.out.now e.called e.kept e.computed c.next.auto.work Reading
+    answered a.grammar.now a.utterance.now a.place a.work.now a.out.now e.called e.kept e.computed c.next.auto.work Reading
     (ap (λ (x : A.Answer). told (Ok x)) c.in-Reading.is)
 
 pub returns-in-NoMore : goal.returns-in-NoMore
 returns-in-NoMore c =
     let a = c.args in
     let e = c.in-Ok.ensures in
-    answered a.grammar.now a.utterance.now a.place.now a.work.now a.out.now e.called e.kept e.computed c.next.auto.work NoMore
+    answered a.grammar.now a.utterance.now a.place a.work.now a.out.now e.called e.kept e.computed c.next.auto.work NoMore
     (ap (λ (x : A.Answer). told (Ok x)) c.in-NoMore.is)
 
 pub returns-in-Full : goal.returns-in-Full
 returns-in-Full c =
     let a = c.args in
     let e = c.in-Ok.ensures in
-    answered a.grammar.now a.utterance.now a.place.now a.work.now a.out.now e.called e.kept e.computed c.next.auto.work Full
+    answered a.grammar.now a.utterance.now a.place a.work.now a.out.now e.called e.kept e.computed c.next.auto.work Full
     (ap (λ (x : A.Answer). told (Ok x)) c.in-Full.is)
 
 pub returns-in-Err : goal.returns-in-Err
 returns-in-Err c =
     let a = c.args in
     let e = c.in-Err.ensures in
-    turned_away a.grammar.now a.utterance.now a.place.now a.work.now a.out.now e.called e.kept e.computed c.next.auto.work refl
-    c.refusal.ensures
+    turned_away a.grammar.now a.utterance.now a.place a.work.now a.out.now e.called e.kept e.computed c.next.auto.work refl
+    (rw c.number.ensures.0 at c.refusal.ensures)

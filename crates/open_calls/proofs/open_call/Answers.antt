@@ -6,10 +6,10 @@ pub returns-in-Ok : goal.returns-in-Ok
 returns-in-Ok c =
     let a = c.args in
     let e = c.in-Ok.ensures in
-    opened a.grammar.now a.utterance.now a.work.now a.place.now e.table e.answer
+    opened a.grammar.now a.utterance.now a.work.now a.place e.table e.answer
 
 pub returns-in-Err : goal.returns-in-Err
 returns-in-Err c =
     let a = c.args in
     let e = c.in-Err.ensures in
-    not_opened a.grammar.now a.utterance.now a.work.now a.place.now e.table e.answer c.refusal.ensures
+    not_opened a.grammar.now a.utterance.now a.work.now a.place e.table e.answer (rw c.number.ensures.0 at c.refusal.ensures)

@@ -33,6 +33,6 @@ pub returns-in-Err : goal.returns-in-Err
 returns-in-Err c =
     let a = c.args in
     let e = c.in-Err.ensures.promised in
-    let code = ranged_refusal a.grammar.now a.low.now a.high.now a.work.now e.0 c.refusal.ensures in
+    let code = ranged_refusal a.grammar.now a.low.now a.high.now a.work.now e.0 (rw c.number.ensures.0 at c.refusal.ensures) in
     let both = ranges_told a.grammar.now a.low.now a.high.now a.work.now e.0 a.least.now a.greatest.now code e.1 in
     record { ranged_as = both.0; cost_ranges = both.1 }

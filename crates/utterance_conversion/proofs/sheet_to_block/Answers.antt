@@ -9,7 +9,7 @@ write_utterance-requires c =
     let a = c.args in
     let r = c.in_ok-u.ensures in
     let t = told a.words (utterance_sheet a.words a.sheet.now) r.0 c.read_sheet.new.slots r.1 in
-    (omega arith, omega arith, omega arith, omega (arith, t.size), omega (arith, t.size), t.bits)
+    (omega arith, omega arith, omega arith, t.size, omega arith, t.bits)
 
 pub returns : goal.returns
 returns c =
