@@ -26,7 +26,8 @@ pub returns-in-Err : goal.returns-in-Err
 returns-in-Err c =
     let a = c.args in
     let answered = c.in-Err.ensures in
-    let code = plain_number (λ x. 0) answered.value (chance_small a.grammar.now a.utterance.now a.reading.now a.shares.now) (rw c.number.ensures.0 at c.refusal.ensures) in
+    let small = chance_small a.grammar.now a.utterance.now a.reading.now a.shares.now in
+    let code = plain_number (λ x. 0) answered.value small (rw c.number.ensures.0 at c.refusal.ensures) in
     let float = ap (λ (v : Verdict Float). chance_after v a.chance.now) answered.value in
     record {
       answered_as = record { code_is = code; left_is = float };
