@@ -21,6 +21,9 @@ pub struct Inputs {
     pub heard: HeardSize,
 }
 
+// The number found, or the refusal.
+pub type Listed = Result<usize, Refusal>;
+
 // A grammar, and what was heard under it as `read` reads it: their sizes, with the rules and the edges in the lent arrays, or the first
 // refusal.
 fn read_both<F: Fn(&[u8], u32, &mut [u32]) -> Result<HeardSize, Refusal>>(

@@ -10,8 +10,8 @@ ghost use Rattle.listing.specs.Listing.{list, output_after};
 ghost use Rattle.reading_rows.specs.Rows.{room_for, Told};
 ghost use Rattle.lines.specs.Shapes.{ShapeOf};
 
+use inputs::Listed;
 use packing::format::{EDGES_LENGTH, MAX_RULES, RULES_LENGTH};
-use packing::refusal::Refusal;
 use reading_rows::{SHOWN_NUMBERS, Shape, write_rows};
 
 // The number of readings that document 01 has the lister ask for.
@@ -48,7 +48,7 @@ fn lines_within(
     work: &mut [u32],
     out: &mut [u8],
     shown: &mut [u32],
-) -> Result<usize, Refusal>
+) -> Listed
     requires { 400 ≤ length shown.old }
     ensures lists { Lists work_after output_after
         (list library grammar.now heard.now 8 (length work.old) (length out.old))
@@ -71,7 +71,7 @@ pub fn lines(
     work: &mut [u32],
     out: &mut [u8],
     shown: &mut [u32],
-) -> Result<usize, Refusal>
+) -> Listed
     ensures lists { Lists work_after output_after
         (list library grammar.now heard.now 8 (length work.old)
         (room_for (length out.old) (length shown.old)))

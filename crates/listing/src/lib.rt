@@ -15,10 +15,9 @@ ghost use Rattle.traced_readings.specs.Model.{FormFor, block_at};
 ghost use Rattle.listing.specs.Model.{blocks_at, Filled, ReadListed};
 
 use chart_table::Layout;
-use inputs::{Inputs, read_inputs};
+use inputs::{Inputs, Listed, read_inputs};
 use listing_limits::{Asked, LIBRARY, Limits, shortage};
 use packing::format::{EDGES_LENGTH, MAX_SLOTS, RULES_LENGTH, TRACE_LENGTH};
-use packing::refusal::Refusal;
 use traced_readings::{Form, TracedRank, form_of, write_traced};
 
 // The reading of a rank of the root, traced back.
@@ -71,7 +70,7 @@ fn list_read(
     asked: Asked,
     work: &mut [u32],
     out: &mut [u8],
-) -> Result<usize, Refusal>
+) -> Listed
     requires { Bounds inputs }
     ensures { ReadListed rules.now edges.now inputs asked work.old out.old result work.new
         out.new }
@@ -93,7 +92,7 @@ pub fn listing_within(
     wanted: u32,
     work: &mut [u32],
     out: &mut [u8],
-) -> Result<usize, Refusal>
+) -> Listed
     ensures lists { Lists work_after output_after
         (list limits grammar.now heard.now wanted (length work.old) (length out.old))
         work.old out.old result work.new out.new }
@@ -114,7 +113,7 @@ pub fn listing(
     wanted: u32,
     work: &mut [u32],
     out: &mut [u8],
-) -> Result<usize, Refusal>
+) -> Listed
     ensures lists { Lists work_after output_after
         (list library grammar.now heard.now wanted (length work.old) (length out.old))
         work.old out.old result work.new out.new }

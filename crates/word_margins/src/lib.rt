@@ -18,7 +18,7 @@ ghost use Rattle.word_margins.specs.Model.{use_node, use_nodes, first_used, pass
 
 use arrays::{rule_at, store, wide, zero};
 use chart_table::Layout;
-use inputs::{Inputs, read_slot_inputs};
+use inputs::{Inputs, Listed, read_slot_inputs};
 use margin_entries::{NUMBERS_PER_ENTRY, put_entries};
 use one_best::Pass;
 use outside_weights::fill;
@@ -101,7 +101,7 @@ fn margins_read(
     inputs: Inputs,
     work: &mut [u32],
     out: &mut [u32],
-) -> Result<usize, Refusal>
+) -> Listed
     requires { Bounds inputs }
     ensures { ReadMargins rules.now edges.now inputs work.old out.old result work.new out.new }
 {
@@ -122,12 +122,7 @@ fn margins_read(
 
 // The list of words to listen to again, of four numbers each, at the front of the output, and their number. The work table is all zeros
 // afterwards.
-pub fn word_margins(
-    grammar: &[u8],
-    utterance: &[u8],
-    work: &mut [u32],
-    out: &mut [u32],
-) -> Result<usize, Refusal>
+pub fn word_margins(grammar: &[u8], utterance: &[u8], work: &mut [u32], out: &mut [u32]) -> Listed
     ensures lists { Lists work_after output_after
         (margins grammar.now utterance.now (length work.old) (length out.old))
         work.old out.old result work.new out.new }
