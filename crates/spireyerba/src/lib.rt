@@ -211,8 +211,8 @@ pub fn spireyerba_open(grammar: &[u8], utterance: &[u8], place: &mut Place, work
         × onebyone.Open grammar.now utterance.now place.old work.old
         (returned result place.new work.new) }
 {
-    let (code, after) = open_call(grammar, utterance, *place, work);
-    *place = after;
+    let (code, opened) = open_call(grammar, utterance, *place, work);
+    *place = opened;
     code
 }
 
@@ -230,7 +230,7 @@ pub fn spireyerba_next(
         × onebyone.Next searched (lent grammar.now utterance.now place.old work.old out.old)
         (returned result place.new work.new) out.new }
 {
-    let (code, after) = next_call(grammar, utterance, *place, work, out);
-    *place = after;
+    let (code, moved) = next_call(grammar, utterance, *place, work, out);
+    *place = moved;
     code
 }
