@@ -138,8 +138,8 @@ pub fn cost_ranges(
 {
     let mut rules = [0u32; RULES_LENGTH];
     let mut lows = [0u32; EDGES_LENGTH];
-    let mut highs = [0u32; EDGES_LENGTH];
     let inputs = read_slot_inputs(grammar, low, &mut rules, &mut lows)?;
+    let mut highs = [0u32; EDGES_LENGTH];
     let other = read_slots(high, inputs.sizes.words, &mut highs)?;
     if rising_costs::both_rise(&lows, inputs.heard, &highs, other) {
         return ranges_alike(&rules, inputs, &mut lows, &highs, work);
