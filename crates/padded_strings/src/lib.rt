@@ -2,7 +2,7 @@
 // Of two strings of one length the lesser is the one whose bytes come first.
 #![tactic(auto)]
 
-ghost use Rattle.std.specs.Prelude.{◌≡◌, ◌≤◌};
+ghost use Rattle.std.specs.Prelude.{◌≡◌, ◌≤◌, ◌<◌, get_or};
 ghost use Rattle.phrases.specs.Phrases.{word_order};
 ghost use Rattle.phrases.specs.Enumeration.{is_less};
 ghost use Rattle.phrases.specs.Padded.{one_word, join, lesser_word, lesser_join};
@@ -46,12 +46,26 @@ fn join(a: &Padded, b: &Padded, i: usize) -> Padded
     string
 }
 
-// Whether they come before another string's: the left parts decide, and where these are equal the right parts.
+// Byte x of these.
+fn join_at(a: &Padded, b: &Padded, i: usize, x: usize) -> u8
+    requires { (i ≤ MAX_SLOTS) × (x < MAX_SLOTS) }
+    ensures { result ≡ get_or (join a.now b.now i) x 0 }
+{
+    if x < i { a[x] } else { b[x - i] }
+}
+
+// Whether they come before another string's: the first byte that differs decides.
 fn join_precedes(a: &Padded, b: &Padded, i: usize, best: &Padded) -> bool
     requires { i ≤ MAX_SLOTS }
     ensures { result ≡ is_less (word_order (join a.now b.now i) best.now) }
 {
-    (&a[..i], &b[..MAX_SLOTS - i]) < (&best[..i], &best[i..])
+    for (x, &q) in best.iter().enumerate() {
+        let p = join_at(a, b, i, x);
+        if p != q {
+            return p < q;
+        }
+    }
+    false
 }
 
 // The lesser of a string and of two joined, the left one of length i. Nothing is joined that is not less.

@@ -50,9 +50,7 @@ fn lesser_split(table: &Table, b: Sym, c: Sym, len: usize, j: usize, best: Padde
     requires { (b.0 < SYMBOLS) × (c.0 < SYMBOLS) × (0 < j) × (j < len) × (len ≤ MAX_SLOTS) }
     ensures { result ≡ lesser_split table.now len b c j best }
 {
-    let left = table[cell_of(b, j)];
-    let right = table[cell_of(c, len - j)];
-    lesser_join(best, &left, &right, j)
+    lesser_join(best, &table[cell_of(b, j)], &table[cell_of(c, len - j)], j)
 }
 
 // The same for every length of the left part: what a pair rule makes.

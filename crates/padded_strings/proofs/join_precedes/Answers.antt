@@ -1,22 +1,35 @@
--- The left parts decide, and where these are equal the right parts. Assumes nothing.
-use mathlib.Core.Path.{◌≡◌, ap, sym, ◌∙◌}
+-- Up to the place reached both are equal, so that the order is that of the rest. Assumes nothing.
+use mathlib.Core.Path.{refl, sym, ◌∙◌}
 use native.Mathlib.Omega.{arith}
-use Prim.Native.Nat.{ℕ, ◌-◌}
-use mathlib.Core.List.{List}
-use lib.ListN.{length, take, drop}
-use lib.Seq.{length-take-le}
-use Rattle.phrases.specs.Phrases.{word_order}
-use Rattle.phrases.specs.Enumeration.{is_less}
+use borrow.Author.Rules.{rules}
 use Rattle.phrases.specs.Padded.{join}
-use Rattle.padded_strings.proofs.Compared.{parts_told}
-use Rattle.padded_strings.proofs.Joined.{both_parts}
+use Rattle.padded_strings.proofs.Joined.{join_size}
+use Rattle.padded_strings.proofs.Compared.{compared_here, compared_on, compared_end}
 use Rattle.padded_strings.proofs.join_precedes.Goals as goal
+
+pub loop-x-init : goal.loop-x-init
+loop-x-init c = (omega arith, refl)
+
+pub returns-then-p-q : goal.returns-then-p-q
+returns-then-p-q c =
+    let a = c.args in
+    let n = join_size a.a.now a.b.now a.i (search rules) (search rules) (search rules) in
+    rw c.join_at-p.ensures
+    (compared_here (join a.a.now a.b.now a.i) a.best.now c.loop-x.x c.loop-x.invariant.1 (omega (arith, n, c.loop-x-test.true)) (search rules)
+    (λ e. c.if-p-q.true (c.join_at-p.ensures ∙ e)))
+
+pub loop-x-preserved : goal.loop-x-preserved
+loop-x-preserved c =
+    let a = c.args in
+    let n = join_size a.a.now a.b.now a.i (search rules) (search rules) (search rules) in (
+      search rules,
+      compared_on (join a.a.now a.b.now a.i) a.best.now c.loop-x.x c.loop-x.invariant.1
+          (omega (arith, n, c.loop-x-test.true)) (search rules) (sym c.join_at-p.ensures ∙ c.if-p-q.false),
+    )
 
 pub returns : goal.returns
 returns c =
     let a = c.args in
-    let s = a.best.now in
-    let l : length s ≡ 24 = c.told-best in
-    let sizes = length-take-le a.i a.a.now (omega arith) ∙ sym (length-take-le a.i s (omega arith)) in
-    c.lt.ensures ∙ parts_told (take a.i a.a.now) (take (24 - a.i) a.b.now) (take a.i s) (take (24 - a.i) (drop a.i s)) sizes
-    ∙ ap (λ (t : List ℕ). is_less (word_order (join a.a.now a.b.now a.i) t)) (both_parts s a.i l)
+    let n = join_size a.a.now a.b.now a.i (search rules) (search rules) (search rules) in
+    compared_end (join a.a.now a.b.now a.i) a.best.now c.loop-x.x c.loop-x.invariant.1 (omega (arith, n, c.loop-x-test.false))
+    (search rules)
