@@ -42,7 +42,9 @@ pub fn checked_root(
         cell: root(d),
         rank,
     };
-    let traced = trace_checked(t, rules, edges, scope, d, part, trace)?;
+    let Some(traced) = trace_checked(t, rules, edges, scope, d, part, trace) else {
+        return None;
+    };
     if traced.weight == wide(root_weight(t, d, rank)) {
         Some(traced.numbers)
     } else {

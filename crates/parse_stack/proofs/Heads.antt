@@ -6,6 +6,7 @@ use mathlib.Core.Option.{none, some}
 use Prim.Native.Nat.{ℕ, zero, suc, ◌+◌, ◌-◌, ◌≤◌, ◌<◌}
 use native.Mathlib.Numerals.{add-one}
 use native.Mathlib.Omega.{arith}
+use lib.Dec.{eqb}
 use lib.ListN.{length, get_or, get_elem?, set, length-set}
 use lib.Seq.{get_or-set_same, get_or-set_other}
 use Rattle.std.specs.Bool.{then_some}
@@ -13,7 +14,7 @@ use Rattle.bits.specs.Bits.{pick}
 use Rattle.packing.specs.Meaning.{symbol_of}
 use Rattle.packing.specs.declared.Sym.{Sym}
 use Rattle.packing.specs.declared.Rule as R
-use Rattle.parse_stack.specs.Stack.{heads_of, with_head, fit_of, option_of}
+use Rattle.parse_stack.specs.Stack.{heads_of, head_of, with_head, fit_of, option_of}
 
 -- what a test lets through
 pub chosen : {A : Type 0} (b : Bool) (a : A) → option_of (then_some b a) ≡ pick b (some a) none
@@ -66,3 +67,8 @@ no_rule rules (A ∷ heads) r e = rw e
 pub rule_fit : (rules : List R.Rule) (l : List ℕ) (n r : ℕ) {rule : R.Rule} → 1 ≤ n → get_elem? rules r ≡ some rule
     → fit_of rules (heads_of l n) r ≡ with_head (symbol_of (get_or l (n - 1) 0)) (some rule)
 rule_fit rules l n r h e = rw (heads_top l n h, e)
+
+-- a rule that the test on its head lets through
+pub found : (rules : List R.Rule) (l : List ℕ) (n r : ℕ) {rule : R.Rule} → 1 ≤ n → get_elem? rules r ≡ some rule
+    → option_of (then_some (eqb (head_of rule).0 (get_or l (n - 1) 0)) rule) ≡ fit_of rules (heads_of l n) r
+found rules l n r {rule} h e = rw (rule_fit rules l n r h e) (chosen (eqb (head_of rule).0 (get_or l (n - 1) 0)) rule)

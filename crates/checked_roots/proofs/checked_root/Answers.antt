@@ -8,19 +8,19 @@ use Rattle.checked_roots.proofs.checked_root.Goals as goal
 pub trace_checked-requires : goal.trace_checked-requires
 trace_checked-requires c = rw c.root.ensures (search rules)
 
-pub returns-in_err-traced : goal.returns-in_err-traced
-returns-in_err-traced c =
-    let answer = no_tree _ _ _ _ _ _ _ ((rw c.root.ensures at c.trace_checked.ensures) _ (omega arith)) c.in_err-traced.was in
-    rw c.from_residual.ensures (record { value = answer.0; trace_after = answer.1 })
+pub returns-in_default : goal.returns-in_default
+returns-in_default c =
+    let answer = no_tree _ _ _ _ _ _ _ ((rw c.root.ensures at c.trace_checked.ensures) _ (omega arith)) c.in_default.is in
+    record { value = answer.0; trace_after = answer.1 }
 
 pub returns-then-traced-wide : goal.returns-then-traced-wide
 returns-then-traced-wide c =
-    let answer = right_tree _ _ _ _ _ _ _ ((rw c.root.ensures at c.trace_checked.ensures) _ (omega arith)) c.in_ok-traced.was
+    let answer = right_tree _ _ _ _ _ _ _ ((rw c.root.ensures at c.trace_checked.ensures) _ (omega arith)) c.in-Some.is
     (c.wide.ensures.0 ∙ c.root_weight.ensures) c.if-traced-wide.true in
     record { value = answer.0; trace_after = answer.1 }
 
 pub returns-else-traced-wide : goal.returns-else-traced-wide
 returns-else-traced-wide c =
-    let answer = other_tree _ _ _ _ _ _ _ ((rw c.root.ensures at c.trace_checked.ensures) _ (omega arith)) c.in_ok-traced.was
+    let answer = other_tree _ _ _ _ _ _ _ ((rw c.root.ensures at c.trace_checked.ensures) _ (omega arith)) c.in-Some.is
     (c.wide.ensures.0 ∙ c.root_weight.ensures) c.if-traced-wide.false in
     record { value = answer.0; trace_after = answer.1 }

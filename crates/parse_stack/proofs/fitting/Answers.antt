@@ -2,10 +2,11 @@
 use mathlib.Core.Path.{sym, ap, ◌∙◌}
 use mathlib.Core.Option.{some}
 use native.Mathlib.Omega.{arith}
+use borrow.Author.Rules.{rules}
 use Rattle.packing.specs.Flat.{rules_of}
 use Rattle.packing.proofs.Flat.{rule_of, no_rule_of}
 use Rattle.parse_stack.specs.Stack.{heads_of}
-use Rattle.parse_stack.proofs.Heads.{chosen, no_part, no_rule, rule_fit}
+use Rattle.parse_stack.proofs.Heads.{no_part, no_rule, found}
 use Rattle.parse_stack.proofs.fitting.Goals as goal
 use Rattle.parse_stack.proofs.fitting.Goals.{then-height-eq0-via-then-height-eq0, then-height-eq0-via-else-height-eq0+then-count-r}
 
@@ -22,5 +23,5 @@ pub returns : goal.returns
 returns c =
     let a = c.args in
     let there = rule_of a.rules.now a.count a.r c.if-count-r.false ∙ ap some (sym c.rule_at-rule.ensures) in
-    let fit = rule_fit (rules_of a.rules.now a.count) a.stack.now a.height a.r (omega arith) there in
-    rw (c.then_some.ensures, c.head_of.ensures, c.narrow_at.ensures, fit) (chosen _ _)
+    let fit = found (rules_of a.rules.now a.count) a.stack.now a.height a.r (omega arith) there in
+    rw (← fit) (search rules)
