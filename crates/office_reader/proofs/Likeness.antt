@@ -10,9 +10,22 @@ use lib.ListN.{length, get_or}
 use Rattle.bits.specs.Bits.{pick}
 use Rattle.packing.specs.Alike.{any_like}
 use Rattle.office.specs.Office.{Item}
-use Rattle.office.specs.Sheet.{item_alike, items_alike, rule_alike}
+use Rattle.office.specs.Sheet.{item_of, item_alike, items_alike, rule_alike}
 use Rattle.office.specs.Flat.{item_at, items_at, count_at, office_rule_at, behind, office_rules_at}
 use Rattle.office.proofs.Read.{length_items}
+
+module _ (k v m w : ℕ) where
+  pub symbols_alike : k ≡ 0 → m ≡ 0 → eqb v w ≡ item_alike (item_of k v) (item_of m w)
+  symbols_alike p q = rw (eq-eqb k 0 p, eq-eqb m 0 q)
+
+  pub symbol_word : k ≡ 0 → (m ≡ 0 → ⊥) → false ≡ item_alike (item_of k v) (item_of m w)
+  symbol_word p q = rw (eq-eqb k 0 p, ne_eqb m 0 q)
+
+  pub word_symbol : (k ≡ 0 → ⊥) → m ≡ 0 → false ≡ item_alike (item_of k v) (item_of m w)
+  word_symbol p q = rw (ne_eqb k 0 p, eq-eqb m 0 q)
+
+  pub words_alike : (k ≡ 0 → ⊥) → (m ≡ 0 → ⊥) → eqb v w ≡ item_alike (item_of k v) (item_of m w)
+  words_alike p q = rw (ne_eqb k 0 p, ne_eqb m 0 q)
 
 module _ (s : List ℕ) (p q n : ℕ) where
   -- the turns of the loop over the items

@@ -5,12 +5,12 @@ use mathlib.Core.Bool.{Bool, true, false, ◌&&◌, false≢true}
 use mathlib.Core.List.{List, [], ◌∷◌}
 use Prim.Native.Nat.{ℕ, suc, ◌+◌, ◌-◌, ◌*◌, ◌%◌, ◌≤◌, ◌<◌}
 use native.Mathlib.Omega.{arith}
-use borrow.Author.Tests.{eqb-true}
+use borrow.Author.Tests.{eqb-true, eq-eqb, ne_eqb}
 use native.Mathlib.Numerals.{add-one}
 use lib.Dec.{eqb}
 use lib.ListN.{length, set}
 use Rattle.office.specs.Office.{Item, symbol, spoken, OfficeRule, rule}
-use Rattle.office.specs.Sheet.{item_alike, items_alike, rule_alike}
+use Rattle.office.specs.Sheet.{item_of, item_alike, items_alike, rule_alike}
 use Rattle.office.specs.Flat.{item_at, items_at, office_rule_at, behind_all, office_rules_at}
 use Rattle.office.proofs.Read.{rules_snoc}
 use Rattle.rules_reader.specs.Rules.{Filters}
@@ -41,6 +41,13 @@ unfolding rule_alike rule_place
 rule_place_lem (rule A u l) (rule B w m) e =
     let (head, items) = both (eqb A.0 B.0) (items_alike l m) e in
     rw (eqb-true A.0 B.0 head) (items_place_lem l m (B.0 % 4093) items)
+
+module _ (k v : ℕ) where
+  pub symbol_number : k ≡ 0 → 2 * v ≡ item_number (item_of k v)
+  symbol_number e = rw (eq-eqb k 0 e)
+
+  pub word_number : (k ≡ 0 → ⊥) → 2 * v + 1 ≡ item_number (item_of k v)
+  word_number e = rw (ne_eqb k 0 e)
 
 module _ (s : List ℕ) (p n : ℕ) where
   -- what is left of the items after i of them

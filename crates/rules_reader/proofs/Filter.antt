@@ -20,6 +20,13 @@ module _ {A : Type 0} (like : A → A → Bool) (place : A → ℕ) where
   unfolding any_like
   filters_none filter x h = absurd (false≢true h)
 
+  pub filters_miss : (x : A) (l : List A) (filter : List ℕ) → Filters like place l filter → get_or filter (place x) 0 ≡ 0 → false ≡ any_like like x l
+  filters_miss x l filter h z = go (any_like like x l) refl
+    where
+      go : (b : Bool) → any_like like x l ≡ b → false ≡ b
+      go true e = absurd (omega (arith, h x e))
+      go false e = refl
+
   -- an item more
   pub filters_more : ((x y : A) → like x y ≡ true → place x ≡ place y) → (l : List A) (filter : List ℕ) (y : A) → place y < length filter
       → Filters like place l filter → Filters like place (l ++ (y ∷ [])) (set filter (place y) 1)

@@ -4,7 +4,7 @@ use mathlib.Core.Option.{Option}
 use mathlib.Core.List.{List}
 use Prim.Native.Nat.{ℕ, ◌≤◌, ◌<◌}
 use native.Mathlib.Omega.{arith}
-use borrow.Author.Tests.{le-ltb, ltb-false}
+use borrow.Author.Tests.{lt-ltb, le-ltb, ltb-false}
 use lib.Dec.{ltb}
 use Rattle.packing.specs.Meaning.{Grammar}
 use Rattle.packing.specs.Parse.{Verdict, accepted, refused, ◌then◌}
@@ -22,6 +22,18 @@ module _ (most : ℕ) (s : List ℕ) (n out : ℕ) where
   asked_block e = rw e
 
   module _ {g : Grammar} (e : grammar_block s ≡ accepted g) where
+    pub asked_none : n < 1 → asked most s n out ≡ refused 25
+    unfolding asked
+    asked_none h = rw (e, lt-ltb _ _ h)
+
+    pub asked_many : 1 ≤ n → most < n → asked most s n out ≡ refused 25
+    unfolding asked
+    asked_many h k = rw (e, le-ltb n 1 h, lt-ltb _ _ k)
+
+    pub asked_short : 1 ≤ n → n ≤ most → out < n → asked most s n out ≡ refused 26
+    unfolding asked
+    asked_short h k l = rw (e, le-ltb n 1 h, le-ltb most n k, lt-ltb _ _ l)
+
     pub asked_well : 1 ≤ n → n ≤ most → n ≤ out → asked most s n out ≡ accepted g
     unfolding asked
     asked_well h k l = rw (e, le-ltb n 1 h, le-ltb most n k, le-ltb out n l)

@@ -1,0 +1,2 @@
+-- What follows one has a split.
+pub mod Initial
